@@ -1,0 +1,4 @@
+pub mod Listing
+pub mod Parsing
+pub mod Tallies
+pub mod Filling

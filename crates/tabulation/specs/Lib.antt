@@ -1,0 +1,4 @@
+pub mod Order
+pub mod Inputs
+pub mod Tables
+pub mod Names
