@@ -4,6 +4,13 @@ ghost use Rattle.effects.specs.Four.{four, four-questions, either, overrides, 
 use crate::algebra::EffectAlgebra;
 use crate::decision::Decision;
 
+// How many effects, combiners and questions there are.
+const COUNT: u8 = 4;
+
+const COMBINERS: u8 = 4;
+
+const QUESTIONS: u8 = 6;
+
 #[derive(Clone, Copy, PartialEq, Eq, Debug)]
 pub enum FourEffect {
     NotApplicable,
@@ -82,7 +89,7 @@ pub impl EffectAlgebra for FourEffect as FourEffects {
     ghost questions = { four-questions };
 
     fn count() -> u8 {
-        4
+        COUNT
     }
 
     fn code(self) -> u8 {
@@ -116,7 +123,7 @@ pub impl EffectAlgebra for FourEffect as FourEffects {
     }
 
     fn combiner_count() -> u8 {
-        4
+        COMBINERS
     }
 
     fn combine(combiner: u8, first: FourEffect, second: FourEffect) -> FourEffect {
@@ -129,7 +136,7 @@ pub impl EffectAlgebra for FourEffect as FourEffects {
     }
 
     fn question_count() -> u8 {
-        6
+        QUESTIONS
     }
 
     fn breaks(question: u8, first: FourEffect, second: FourEffect) -> bool {

@@ -4,6 +4,13 @@ ghost use Rattle.effects.specs.Six.{six, six-questions, either, meets, overrid
 use crate::algebra::EffectAlgebra;
 use crate::decision::Decision;
 
+// How many effects, combiners and questions there are.
+const COUNT: u8 = 6;
+
+const COMBINERS: u8 = 3;
+
+const QUESTIONS: u8 = 6;
+
 #[derive(Clone, Copy, PartialEq, Eq, Debug)]
 pub enum SixEffect {
     NotApplicable,
@@ -98,7 +105,7 @@ pub impl EffectAlgebra for SixEffect as SixEffects {
     ghost questions = { six-questions };
 
     fn count() -> u8 {
-        6
+        COUNT
     }
 
     fn code(self) -> u8 {
@@ -140,7 +147,7 @@ pub impl EffectAlgebra for SixEffect as SixEffects {
     }
 
     fn combiner_count() -> u8 {
-        3
+        COMBINERS
     }
 
     fn combine(combiner: u8, first: SixEffect, second: SixEffect) -> SixEffect {
@@ -152,7 +159,7 @@ pub impl EffectAlgebra for SixEffect as SixEffects {
     }
 
     fn question_count() -> u8 {
-        6
+        QUESTIONS
     }
 
     fn breaks(question: u8, first: SixEffect, second: SixEffect) -> bool {

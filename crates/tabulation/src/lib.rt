@@ -9,6 +9,8 @@ mod tables;
 pub use fact_set::FactSet;
 pub use fact_set::FactSetDisplay;
 pub use input::BadInput;
+pub use input::BadInputDebug;
+pub use input::BadInputPartialEq;
 pub use input::EffectSet;
 pub use input::Input;
 pub use rows::Outcome;

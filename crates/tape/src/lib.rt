@@ -23,6 +23,8 @@ pub use reader::CodesAtRequest;
 pub use reader::read;
 pub use reader::read_with;
 pub use refusal::Layer;
+pub use refusal::LayerDebug;
+pub use refusal::LayerPartialEq;
 pub use refusal::Refusal;
 pub use refusal::RefusedAt;
 pub use stack::Stack;
