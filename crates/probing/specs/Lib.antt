@@ -1,0 +1,4 @@
+pub mod Table
+pub mod Model
+pub mod Mixing
+pub mod Kinds
