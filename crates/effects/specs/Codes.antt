@@ -1,4 +1,4 @@
--- An effect algebra over codes: all that an engine gets to know of it.
+-- An effect algebra over codes: all that is known of it where tapes are run.
 use mathlib.Core.Bool.{Bool}
 use Prim.Native.Nat.{ℕ, _<_, _≤_}
 use Rattle.effects.specs.Effects.{Effects, Questions}

@@ -5,11 +5,13 @@ use lib.Dec.{eqb}
 use Rattle.effects.specs.declared.decision.Decision.{Decision}
 use Rattle.effects.specs.declared.decision.Decision.the-variants.{Permit, Deny, Neither}
 
+-- the decision is to permit
 abbrev pub permits : Decision → Bool
 permits Permit = true
 permits Deny = false
 permits Neither = false
 
+-- the decision is to deny
 abbrev pub denies : Decision → Bool
 denies Permit = false
 denies Deny = true

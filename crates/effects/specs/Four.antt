@@ -9,12 +9,14 @@ use Rattle.effects.specs.declared.decision.Decision.the-variants.{Permit as pe
 use Rattle.effects.specs.declared.four.FourEffect.{FourEffect}
 use Rattle.effects.specs.declared.four.FourEffect.the-variants.{NotApplicable, Permit, Deny, Error}
 
+-- the code of an effect
 abbrev pub code-of : FourEffect → ℕ
 code-of NotApplicable = 0
 code-of Permit = 1
 code-of Deny = 2
 code-of Error = 3
 
+-- the effect of a code
 abbrev pub effect-of : ℕ → FourEffect
 effect-of n = cond (eqb n 1) Permit (cond (eqb n 2) Deny (cond (eqb n 3) Error NotApplicable))
 

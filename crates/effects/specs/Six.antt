@@ -10,6 +10,7 @@ use Rattle.effects.specs.declared.six.SixEffect.{SixEffect}
 use Rattle.effects.specs.declared.six.SixEffect.the-variants.{NotApplicable, Permit, Deny, IndeterminateD, IndeterminateP, IndeterminateDP}
 use Rattle.effects.specs.declared.six.Side.{Side}
 
+-- the code of an effect
 abbrev pub code-of : SixEffect → ℕ
 code-of NotApplicable = 0
 code-of Permit = 1
@@ -18,6 +19,7 @@ code-of IndeterminateD = 3
 code-of IndeterminateP = 4
 code-of IndeterminateDP = 5
 
+-- the effect of a code
 abbrev pub effect-of : ℕ → SixEffect
 effect-of n =
     cond (eqb n 1) Permit (cond (eqb n 2) Deny (cond (eqb n 3) IndeterminateD (cond (eqb n 4) IndeterminateP (cond (eqb n 5) IndeterminateDP NotApplicable))))

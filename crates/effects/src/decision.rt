@@ -11,7 +11,7 @@ pub enum Decision {
 }
 
 impl Decision {
-    // Whether a first and a second decision break one of the questions 1 to 5.
+    // Whether a first and a second decision break one of the questions 1 to 5; no other number is broken.
     pub fn breaks(question: u8, first: Decision, second: Decision) -> bool
         ensures { λ r. ⌜ r ≡ decisions-break question first second ⌝ }
     {

@@ -11,7 +11,7 @@ use crate::algebra::EffectAlgebra;
 use crate::tables::EffectTables;
 use crate::tables::QuestionTables;
 
-// What a table says of two codes; 0 where one of them is no code.
+// What a table says of two codes; 0 where one of them is not below 16.
 pub fn cell(table: &[u8; 256], first: u8, second: u8) -> u8
     ensures { λ r. ⌜ r ≡ cell-of (now (table .entry)) first second ⌝ }
 {

@@ -1,4 +1,4 @@
-// An effect algebra written down as tables of codes, once; an engine then reads the tables alone.
+// An effect algebra written down as tables of codes, once; what runs tapes then reads the tables alone.
 ghost use mathlib.Core.List.{[]};
 ghost use Prim.Native.Nat.{ℕ, _<_, _≤_};
 ghost use lib.ListN.{getD};
@@ -18,7 +18,7 @@ pub struct EffectTables {
     pub combine: [[u8; 256]; 4],
     ghost few: { count ≤ 16 },
     ghost four: { «combiner_count» ≤ 4 },
-    // every cell is a code
+    // every cell is below 16
     ghost small: { Small negation × Small both × Small either × Small scope × Small fail },
     ghost each_small: { (k : ℕ) → k < 4 → Small (getD combine k []) },
 }

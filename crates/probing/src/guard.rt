@@ -5,7 +5,8 @@ ghost use Rattle.probing.specs.Table.{free};
 use crate::Slot;
 use crate::table::wipe;
 
-// Slots that a caller lends as scratch. When the guard goes, on whatever way, every slot has the blank key and the serial 0.
+// Slots that a caller lends as scratch. When the guard goes, on whatever way, every slot that it holds has the blank key and
+// the serial 0.
 pub struct Guard<'a, K: Copy> {
     pub slots: &'a mut [Slot<K>],
     pub blank: K,

@@ -8,6 +8,7 @@ use Rattle.reading_tests.specs.declared.hostile.Odd.the-variants.{Low, High, S
 use Rattle.reading_tests.specs.declared.hostile.Single.{Single}
 use Rattle.reading_tests.specs.declared.hostile.Single.the-variants.{Only}
 
+-- the code of an effect
 abbrev pub odd-code : Odd → ℕ
 odd-code Low = 0
 odd-code High = 1

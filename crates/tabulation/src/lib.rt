@@ -12,6 +12,8 @@ pub use input::BadInput;
 pub use input::BadInputDebug;
 pub use input::BadInputPartialEq;
 pub use input::EffectSet;
+pub use input::EffectSetDebug;
+pub use input::EffectSetPartialEq;
 pub use input::Input;
 pub use rows::Outcome;
 pub use rows::Row;

@@ -1,7 +1,12 @@
 // How effects are written.
 ghost use mathlib.Core.Path.{_≡_};
-ghost use Rattle.tabulation.specs.Names.{count-of, name-of};
+ghost use Rattle.tabulation.specs.Names.{count-of, name-of, four-name, six-name};
 use crate::input::EffectSet;
+use effects::EffectAlgebra;
+use effects::FourEffect;
+use effects::FourEffects;
+use effects::SixEffect;
+use effects::SixEffects;
 
 impl EffectSet {
     // How many effects there are.
@@ -9,8 +14,8 @@ impl EffectSet {
         ensures { λ r. ⌜ r ≡ count-of self ⌝ }
     {
         match self {
-            EffectSet::Four => 4,
-            EffectSet::Six => 6,
+            EffectSet::Four => FourEffect::count(),
+            EffectSet::Six => SixEffect::count(),
         }
     }
 
@@ -18,35 +23,36 @@ impl EffectSet {
     pub fn name(self, code: u8) -> &'static str
         ensures { λ r. ⌜ now r ≡ name-of self code ⌝ }
     {
+        if code >= self.count() {
+            return "?";
+        }
         match self {
-            EffectSet::Four => four_name(code),
-            EffectSet::Six => six_name(code),
+            EffectSet::Four => name_of_four(FourEffect::effect(code)),
+            EffectSet::Six => name_of_six(SixEffect::effect(code)),
         }
     }
 }
 
-fn four_name(code: u8) -> &'static str
-    ensures { λ r. ⌜ now r ≡ name-of EffectSet.Four code ⌝ }
+fn name_of_four(effect: FourEffect) -> &'static str
+    ensures { λ r. ⌜ now r ≡ four-name effect ⌝ }
 {
-    match code {
-        0 => "NA",
-        1 => "Permit",
-        2 => "Deny",
-        3 => "Error",
-        _ => "?",
+    match effect {
+        FourEffect::NotApplicable => "NA",
+        FourEffect::Permit => "Permit",
+        FourEffect::Deny => "Deny",
+        FourEffect::Error => "Error",
     }
 }
 
-fn six_name(code: u8) -> &'static str
-    ensures { λ r. ⌜ now r ≡ name-of EffectSet.Six code ⌝ }
+fn name_of_six(effect: SixEffect) -> &'static str
+    ensures { λ r. ⌜ now r ≡ six-name effect ⌝ }
 {
-    match code {
-        0 => "NA",
-        1 => "Permit",
-        2 => "Deny",
-        3 => "Indeterminate{D}",
-        4 => "Indeterminate{P}",
-        5 => "Indeterminate{DP}",
-        _ => "?",
+    match effect {
+        SixEffect::NotApplicable => "NA",
+        SixEffect::Permit => "Permit",
+        SixEffect::Deny => "Deny",
+        SixEffect::IndeterminateD => "Indeterminate{D}",
+        SixEffect::IndeterminateP => "Indeterminate{P}",
+        SixEffect::IndeterminateDP => "Indeterminate{DP}",
     }
 }

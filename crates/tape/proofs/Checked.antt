@@ -52,15 +52,6 @@ found ks x d a b c p q r s =
 pub bad-end : (ks : List Kind) (x : Command) (d : ℕ) → length ks ≡ d → is-end x ≡ true → (eqb d 1 && fits (takes x) ks) ≡ false → Err WrongEnd ≡ Found ks x
 bad-end ks x d p e f = found ks x d false false true p (simp e) (simp (end-takes x e)) (simp (e, f))
 
-pub good-end : (ks : List Kind) (x : Command) (d : ℕ) → length ks ≡ d → is-end x ≡ true → (eqb d 1 && fits (takes x) ks) ≡ true → Ok tt ≡ Found ks x
-good-end ks x d p e f = found ks x d false false false p (simp e) (simp (end-takes x e)) (simp (e, f))
-
-pub bad-entry : (ks : List Kind) (x : Command) (d : ℕ) → length ks ≡ d → is-end x ≡ false → fits (takes x) ks ≡ false → Err WrongEntry ≡ Found ks x
-bad-entry ks x d p e f = found ks x d true (eqb (length (takes x)) 0 && leb 32 d) (is-end x && not (eqb d 1 && fits (takes x) ks)) p (simp (e, f)) refl refl
-
-pub too-deep : (ks : List Kind) (x : Command) (d : ℕ) → length ks ≡ d → is-end x ≡ false → fits (takes x) ks ≡ true → (eqb (length (takes x)) 0 && leb 32 d) ≡ true → Err StackFull ≡ Found ks x
-too-deep ks x d p e f g = found ks x d false true (is-end x && not (eqb d 1 && fits (takes x) ks)) p (simp (e, f)) g refl
-
 pub good-entry : (ks : List Kind) (x : Command) (d : ℕ) → length ks ≡ d → is-end x ≡ false → fits (takes x) ks ≡ true → (eqb (length (takes x)) 0 && leb 32 d) ≡ false → Ok tt ≡ Found ks x
 good-entry ks x d p e f g = found ks x d false false false p (simp (e, f)) g (simp e)
 

@@ -11,8 +11,6 @@ use lib.Dec.{eqb, leb, ltb}
 use Rattle.std.proofs.shelf.Tests.{cond-true, cond-false}
 use Rattle.std.specs.declared.result.Result.{Result}
 use Rattle.std.specs.declared.result.Result.the-variants.{Ok, Err}
-use mathlib.Core.Logic.{_⊎_, inl, inr, ⊎-elim}
-use Rattle.tape.proofs.Stepping.{inv-cond}
 use Rattle.effects.specs.Codes.{Codes, Closed}
 use Rattle.tape.specs.Refusals.{at-place}
 use Rattle.tape.specs.Tape.{Row, values, result, kinds, is-end, ended, Tests, first-of, bind, checked, next-command, after, bytes-taken, tape-from, told, no-tests, opening, read-answer}
@@ -128,7 +126,7 @@ pub many-facts : (K : Codes) (n : ℕ) (tape : List ℕ) (r : ℕ) → ltb 32 n 
 unfolding read-answer
 many-facts K n tape r a = cond-true _ _ _ a
 
-pub no-fact : (K : Codes) (n : ℕ) (tape : List ℕ) (r : ℕ) → ltb 32 n ≡ false → leb (2 ^ n) r ≡ true → read-answer K n tape r ≡ Err (at-place UndeclaredInRequest 0)
+pub no-fact : (K : Codes) (n : ℕ) (tape : List ℕ) (r : ℕ) → ltb 32 n ≡ false → leb (2 ^ n) r ≡ true → read-answer K n tape r ≡ Err (record { refusal = UndeclaredInRequest; place = 0 })
 unfolding read-answer
 no-fact K n tape r a b = cond-false _ _ _ a ∙ cond-true _ _ _ b
 
@@ -145,24 +143,3 @@ stepped-rest M K n row tape place s t su r sd = subst (λ (bs : List ℕ). Stepp
 
 pub count-rest : (tape : List ℕ) (place c : ℕ) → c ≤ length (take (length tape - place) (drop place tape)) → c ≤ length (drop place tape)
 count-rest tape place c h = subst (λ (bs : List ℕ). c ≤ length bs) (part-rest tape place) h
-
--- a reader's own test only adds a refusal
-own-ok : (v : Result (Command × ℕ) Refusal) (b : Command × ℕ → Bool) (d : Command × ℕ) → bind v (λ d. first-of ((b d, NoSlot) ∷ []) d) ≡ Ok d → bind v (λ d. first-of [] d) ≡ Ok d
-own-ok (Ok a) b d p = inv-cond (b a) NoSlot (Ok a) d p .1
-own-ok (Err e) b d p = p
-
-free-bool : (b : Bool) (a : Command × ℕ) (e : Refusal) → cond b (Err NoSlot) (Ok a) ≡ Err e → e ≡ NoSlot
-free-bool true a e p = let q : _≡_ {A = Result (Command × ℕ) Refusal} (Err NoSlot) (Err e) = p in cc
-free-bool false a e p = let q : _≡_ {A = Result (Command × ℕ) Refusal} (Ok a) (Err e) = p in let z : _≡_ {A = ℕ} 0 1 = cc in absurd (omega arith)
-
-own-err : (v : Result (Command × ℕ) Refusal) (b : Command × ℕ → Bool) (e : Refusal) → bind v (λ d. first-of ((b d, NoSlot) ∷ []) d) ≡ Err e → (e ≡ NoSlot) ⊎ (bind v (λ d. first-of [] d) ≡ Err e)
-own-err (Ok a) b e p = inl (free-bool (b a) a e p)
-own-err (Err x) b e p = inr p
-
-pub free-ok : (full : (ℕ → ℕ) → Bool) (K : Codes) (n : ℕ) (row : Row) (bs : List ℕ) (d : Command × ℕ) → next-command K n (own-tests full K row) row bs ≡ Ok d → next-command K n (no-tests row) row bs ≡ Ok d
-unfolding next-command
-free-ok full K n row bs d p = own-ok (checked K n (ended row) (kinds row) bs) (λ d. not (is-end (d .0)) && full (λ q. result K (row ++ d .0 ∷ []) q)) d p
-
-pub free-err : (full : (ℕ → ℕ) → Bool) (K : Codes) (n : ℕ) (row : Row) (bs : List ℕ) (e : Refusal) → next-command K n (own-tests full K row) row bs ≡ Err e → (e ≡ NoSlot) ⊎ (next-command K n (no-tests row) row bs ≡ Err e)
-unfolding next-command
-free-err full K n row bs e p = own-err (checked K n (ended row) (kinds row) bs) (λ d. not (is-end (d .0)) && full (λ q. result K (row ++ d .0 ∷ []) q)) e p

@@ -96,7 +96,7 @@ abbrev pub Meant : {S E : Type 0} → Model S E → S → List E → (ℕ → Li
 Meant M s [] F = (q : ℕ) → F q ≡ []
 Meant M s (e ∷ es) F = M .sense s e (λ q. getD (F q) 0 0) × Meant M s es (λ q. drop 1 (F q))
 
--- a command whose operand is within the tables
+-- a command whose operand is within its limit: 32 facts, 16 codes, 4 combiners
 abbrev pub Within : Command → Type 0
 Within (Has f) = f < 32
 Within (Any m) = Unit {0}

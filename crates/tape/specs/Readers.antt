@@ -5,21 +5,22 @@ use Prim.Native.Nat.{ℕ}
 use Rattle.tape.specs.Entries.{Model, Lasts}
 use Rattle.tape.specs.declared.at_request.AtRequest.{AtRequest}
 
--- an entry is its value at the request, and there is always room
+-- an entry is its value at the request, there is always room, and the request stays
 abbrev pub at-model : Model AtRequest ℕ
 at-model = record {
   ready = λ s. Unit {0};
   sense = λ s e f. e ≡ f (s .request);
   full = λ s f. false;
   later = λ s t. s .request ≡ t .request;
-  grows = λ s f t. Unit {0};
-  stays = λ s t. Unit {0};
+  grows = λ s f t. s .request ≡ t .request;
+  stays = λ s t. s .request ≡ t .request;
 }
 
+-- what every reader owes, of this one
 pub at-lasts : Lasts at-model
 at-lasts = record {
-  still = λ s. tt;
-  constant = λ s c h. tt;
+  still = λ s. refl;
+  constant = λ s c h. refl;
   free = λ s c h. refl;
   same = λ s. refl;
   chain = λ s t u h k. h ∙ k;

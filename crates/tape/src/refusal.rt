@@ -15,7 +15,7 @@ pub enum Refusal {
     NotEnded,
     // a byte that begins no command
     UnknownByte,
-    // a command cut off before the end of its operand
+    // no byte, or a command cut off before the end of its operand
     CutOff,
     // an operand with a fact that is not declared
     UndeclaredFact,
@@ -61,7 +61,8 @@ pub enum Layer {
     Job,
 }
 
-// A refusal with the byte place of the command that it is about.
+// A refusal with its byte place: that of the command that it is about, 0 before the first command, and
+// the length of the tape where that ends too early.
 #[derive(Clone, Copy, PartialEq, Eq, Debug)]
 pub struct RefusedAt {
     pub refusal: Refusal,

@@ -1,0 +1,12 @@
+pub mod Cofactors
+pub mod Counted
+pub mod Law
+pub mod Requests
+pub mod Tree
+pub mod Nodes
+pub mod Building
+pub mod Stores
+pub mod Questions
+pub mod Entries
+pub mod StoreLaw
+pub mod Lasting
