@@ -3,8 +3,6 @@ use std::test::*;
 use tabulation::BadInput;
 use tabulation::BadInputDebug;
 use tabulation::BadInputPartialEq;
-use tabulation::FactSet;
-use tabulation::FactSetDisplay;
 use tabulation::Input;
 use tabulation::Outcome;
 use tabulation::tabulate;
@@ -61,12 +59,4 @@ fn refused(rt: LibcRuntime) -> Result<(), Fail> {
         }
         _ => Err(Fail::new("not refused")),
     }
-}
-
-#[test]
-fn fact_sets(rt: LibcRuntime) -> Result<(), Fail> {
-    let heap = rt.alloc();
-    check_eq(FactSet(0).to_string(heap)?.as_str(), "{}")?;
-    check_eq(FactSet(5).to_string(heap)?.as_str(), "{0,2}")?;
-    check_eq(FactSet(0x8000_0000).to_string(heap)?.as_str(), "{31}")
 }

@@ -1,16 +1,36 @@
 // Reads a fact count, an effect count and a tape from standard input, and prints the tape's effect at
 // every request.
 use std::error::AnyError;
+use std::fmt;
 use std::io::Read;
 use tabulation::BadInput;
-use tabulation::FactSet;
-use tabulation::FactSetDisplay;
 use tabulation::Outcome;
 use tabulation::Table;
 use tabulation::tabulate;
 
 // One byte more than an input may have, so that one that is too long is seen to be.
 const ENOUGH: u64 = 65538;
+
+// A request as the set of its fact numbers, in rising order: `{0,2}`.
+#[derive(Clone, Copy)]
+struct FactSet(u32);
+
+impl fmt::Display for FactSet as FactSetDisplay {
+    fn fmt<W: fmt::Write>(&self, f: &mut fmt::Formatter<W>) -> fmt::Result {
+        write!(f, "{{")?;
+        let mut first = true;
+        for fact in 0u32..32 {
+            if (self.0 >> fact) % 2 == 1 {
+                if !first {
+                    write!(f, ",")?;
+                }
+                write!(f, "{fact}")?;
+                first = false;
+            }
+        }
+        write!(f, "}}")
+    }
+}
 
 fn complaint(bad: BadInput) -> &'static str {
     match bad {

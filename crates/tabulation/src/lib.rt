@@ -1,13 +1,10 @@
 // From the bytes of an input to the table of a tape: its effect at every request.
-mod fact_set;
 mod input;
 mod names;
 mod order;
 mod rows;
 mod tables;
 
-pub use fact_set::FactSet;
-pub use fact_set::FactSetDisplay;
 pub use input::BadInput;
 pub use input::BadInputDebug;
 pub use input::BadInputPartialEq;
