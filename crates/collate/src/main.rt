@@ -1,4 +1,6 @@
 // Reads a job from standard input, runs it on a new shelf, and prints a line for each of its commands.
+#![tactic(auto)]
+
 use jobs::collate;
 use std::io::Read;
 

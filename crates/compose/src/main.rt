@@ -1,4 +1,6 @@
 // Reads a text with one command a line from standard input, and writes the job that it spells.
+#![tactic(auto)]
+
 use composing::{Composed, compose};
 use std::io::{Read, Write};
 

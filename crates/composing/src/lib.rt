@@ -1,4 +1,6 @@
 // Composing: from a text for people, one command a line, to the bytes of a job.
+#![tactic(auto)]
+
 mod commands;
 mod numerals;
 mod outcome;

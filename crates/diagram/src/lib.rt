@@ -2,6 +2,8 @@
 //
 // `store` has the nodes and what their codes mean, `build` how diagrams are built, `witness` the search for the first
 // request that breaks a question, and `entries` the tape rules over a store.
+#![tactic(auto)]
+
 ghost use Rattle.diagram.specs.Law.{Law};
 ghost use Rattle.diagram.specs.StoreLaw.{StoreLaw};
 

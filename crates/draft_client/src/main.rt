@@ -1,5 +1,7 @@
 // A client of the shelf: it offers a draft to a shelf that did not give it out, gives one up, files another, and prints what
 // came of that.
+#![tactic(auto)]
+
 ghost use Rattle.std.specs.Prelude.{IfOk};
 ghost use Rattle.draft_client.specs.Owning.{Owns};
 

@@ -1,5 +1,7 @@
 // Effects and what can be done with them: the interface of an effect algebra, two algebras, and
 // the tables of codes that are read in their place where tapes are run.
+#![tactic(auto)]
+
 mod algebra;
 mod decision;
 mod four;

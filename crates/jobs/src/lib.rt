@@ -1,4 +1,6 @@
 // Jobs: rows of bytes that spell calls of a shelf, and the lines that their answers print as.
+#![tactic(auto)]
+
 mod collating;
 mod command;
 mod line;

@@ -1,6 +1,8 @@
 // A probing table over slots that a caller lends, proved once for every kind of key.
 //
 // `table` has the table, `guard` a guard that leaves lent slots blank, and `name`, `node` and `pair` the kinds of keys.
+#![tactic(auto)]
+
 ghost use Rattle.std.specs.Prelude.{◌≡◌, ℕ, Bool, true};
 
 pub mod guard;

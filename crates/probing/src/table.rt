@@ -11,7 +11,7 @@ use crate::{Key, Slot};
 // The bucket of the key or the first free one on its way, or none once all buckets were looked at.
 fn seek<K: Key>(slots: &[Slot<K>], key: &K) -> Option<usize>
     requires { (h : ℕ) → slice_index (serials slots.now) h ≤ length slots.now }
-    ensures sought { Sought same hashed (serials slots.now) (stored slots.now) key.now result }
+    ensures sought { Sought K.same K.hashed (serials slots.now) (stored slots.now) key.now result }
     ensures near { Near (length slots.now) result }
 {
     let n = slots.len();
@@ -83,7 +83,7 @@ impl<'a, K: Key> Table<'a, K> {
     // No keys: every slot is wiped.
     pub fn new(slots: &'a mut [Slot<K>], blank: K) -> Self
         requires { length slots.old < 65536 }
-        ensures sound { Whole same hashed result }
+        ensures sound { Whole K.same K.hashed result }
         ensures listed { keys result ≡ [] }
         ensures blank { result.slots.now ≡ replicate (length slots.old) (free blank) }
         ensures width { room result ≡ length slots.old }
@@ -95,8 +95,8 @@ impl<'a, K: Key> Table<'a, K> {
     // `seek` in the table's slots. It is a method of its own since the checker does not yet let `insert`, which has a
     // `&mut self`, lend the slots as a `&`.
     fn place(&self, key: &K) -> Option<usize>
-        requires { Whole same hashed self.now }
-        ensures sought { Sought same hashed (serials self.now.slots.now) (stored self.now.slots.now) key.now result }
+        requires { Whole K.same K.hashed self.now }
+        ensures sought { Sought K.same K.hashed (serials self.now.slots.now) (stored self.now.slots.now) key.now result }
         ensures near { Near (room self.now) result }
     {
         seek(self.slots, key)
@@ -104,18 +104,18 @@ impl<'a, K: Key> Table<'a, K> {
 
     // How many keys there are: at most as many as slots, and no two of them the same.
     pub fn count(&self) -> usize
-        requires { Whole same hashed self.now }
+        requires { Whole K.same K.hashed self.now }
         ensures number { result ≡ length (keys self.now) }
         ensures within { result ≤ room self.now }
-        ensures apart { Distinct same (keys self.now) }
+        ensures apart { Distinct K.same (keys self.now) }
     {
         self.count // the keys fill the slots from the first on
     }
 
     // The number of the key, if it is there.
     pub fn find(&self, key: &K) -> Option<usize>
-        requires { Whole same hashed self.now }
-        ensures { result ≡ number_of same key.now (keys self.now) }
+        requires { Whole K.same K.hashed self.now }
+        ensures { result ≡ number_of K.same key.now (keys self.now) }
     {
         let bucket = self.place(key)?;
         let slots = &*self.slots;
@@ -125,7 +125,7 @@ impl<'a, K: Key> Table<'a, K> {
 
     // The key of a number, if there is one.
     pub fn key(&self, number: usize) -> Option<K>
-        requires { Whole same hashed self.now }
+        requires { Whole K.same K.hashed self.now }
         ensures { result ≡ nth (keys self.now) number }
     {
         if number < self.count {
@@ -139,10 +139,10 @@ impl<'a, K: Key> Table<'a, K> {
     // The number of the key. A new key gets the next number where a slot is free; else it is refused, and nothing changes.
     // No key of a lower number is touched.
     pub fn insert(&mut self, key: K) -> Option<usize>
-        requires { Whole same hashed self.old }
-        ensures sound { Whole same hashed self.new }
-        ensures answer { result ≡ numbered same key (room self.old) (keys self.old) }
-        ensures listed { keys self.new ≡ grown same key (room self.old) (keys self.old) }
+        requires { Whole K.same K.hashed self.old }
+        ensures sound { Whole K.same K.hashed self.new }
+        ensures answer { result ≡ numbered K.same key (room self.old) (keys self.old) }
+        ensures listed { keys self.new ≡ grown K.same key (room self.old) (keys self.old) }
         ensures older { take (length (keys self.old)) (keys self.new) ≡ keys self.old }
         ensures beyond { drop (length (keys self.new)) (kept self.new) ≡ drop (length (keys self.new)) (kept self.old) }
         ensures quiet { self.new.count ≡ self.old.count → self.new.slots.now ≡ self.old.slots.now }
@@ -161,8 +161,8 @@ impl<'a, K: Key> Table<'a, K> {
 
     // Gives up the keys from number n on. Those below n stay, and so does what every slot keeps as its key.
     pub fn roll_back(&mut self, n: usize)
-        requires { Whole same hashed self.old }
-        ensures sound { Whole same hashed self.new }
+        requires { Whole K.same K.hashed self.old }
+        ensures sound { Whole K.same K.hashed self.new }
         ensures listed { keys self.new ≡ take n (keys self.old) }
         ensures stay { kept self.new ≡ kept self.old }
         ensures width { room self.new ≡ room self.old }
@@ -175,8 +175,8 @@ impl<'a, K: Key> Table<'a, K> {
 
     // Gives up the newest key, if there is one.
     pub fn give_up(&mut self)
-        requires { Whole same hashed self.old }
-        ensures sound { Whole same hashed self.new }
+        requires { Whole K.same K.hashed self.old }
+        ensures sound { Whole K.same K.hashed self.new }
         ensures listed { keys self.new ≡ take (length (keys self.old) - 1) (keys self.old) }
         ensures stay { kept self.new ≡ kept self.old }
         ensures width { room self.new ≡ room self.old }

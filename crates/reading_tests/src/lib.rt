@@ -1,5 +1,7 @@
 // Examples of reading: the tables of the two algebras, every refusal at its boundaries and in its order,
 // algebras that have nothing but what the interface asks, and the inputs of the tabulating program.
+#![tactic(auto)]
+
 #[cfg(test)]
 mod algebras;
 pub mod hostile;

@@ -2,6 +2,8 @@
 //
 // `shelf` has what a shelf keeps, `making` how it is made, `names` declare and find, `drafts` open, feed, file and abandon,
 // `loading` load, `questions` ask, shape, compare and held, and `runner` runs a list of calls, under the law over runs.
+#![tactic(auto)]
+
 mod draft;
 mod drafts;
 mod exchange;

@@ -1,5 +1,7 @@
 // Reads a fact count, an effect count and a tape from standard input, and prints the tape's effect at
 // every request.
+#![tactic(auto)]
+
 use std::fmt;
 use std::io::Read;
 use tabulation::{BadInput, Outcome, Table, tabulate};

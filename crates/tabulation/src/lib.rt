@@ -1,4 +1,6 @@
 // From the bytes of an input to the table of a tape: its effect at every request.
+#![tactic(auto)]
+
 mod input;
 mod names;
 mod order;

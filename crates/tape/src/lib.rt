@@ -1,5 +1,7 @@
 // Tapes: commands and their bytes, the rules by which they work on a stack of entries, and direct
 // reading, which runs the rules at one request.
+#![tactic(auto)]
+
 mod at_request;
 mod checks;
 mod command;

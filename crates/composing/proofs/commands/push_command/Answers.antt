@@ -6,8 +6,8 @@ use Rattle.composing.proofs.commands.push_command.Goals as goal
 pub returns-then-words-lt1 : goal.returns-then-words-lt1
 returns-then-words-lt1 c = adds_some _ _ _ _ (no_words c.args.words.now c.if-words-lt1.true) (sym (append-nil _))
 
-pub returns-in-default : goal.returns-in-default
-returns-in-default c = adds_none _ _ _ (by_verb c.args.words.now _ _ c.if-words-lt1.false c.in-default.ensures)
+pub returns-in_default : goal.returns-in_default
+returns-in_default c = adds_none _ _ _ (by_verb c.args.words.now _ _ c.if-words-lt1.false c.in_default.ensures)
 
 pub returns-then-words-ne2 : goal.returns-then-words-ne2
 returns-then-words-ne2 c = adds_none _ _ _ (by_verb c.args.words.now _ _ c.if-words-lt1.false (ap Some (sym c.in-Declare.is) ∙ c.in-Some.ensures) ∙ not_declare c.args.words.now c.if-words-ne2.true)
@@ -20,24 +20,24 @@ returns-then-words-ne3 c = adds_none _ _ _ (by_verb c.args.words.now _ _ c.if-wo
 
 pub returns-else-words-ne2 : goal.returns-else-words-ne2
 returns-else-words-ne2 c =
-    subst (λ (o : Option (List ℕ)). IfOk c.push-declare.result (λ read. Adds o (vec_items c.args.job.now) read (vec_items c.push-declare.new.job)))
-    (sym (by_verb c.args.words.now _ _ c.if-words-lt1.false (ap Some (sym c.in-Declare.is) ∙ c.in-Some.ensures) ∙ as_declare c.args.words.now _ c.if-words-ne2.false)) c.push-declare.ensures
+    subst (λ (o : Option (List ℕ)). IfOk c.push_declare.result (λ read. Adds o (vec_items c.args.job.now) read (vec_items c.push_declare.new.job)))
+    (sym (by_verb c.args.words.now _ _ c.if-words-lt1.false (ap Some (sym c.in-Declare.is) ∙ c.in-Some.ensures) ∙ as_declare c.args.words.now _ c.if-words-ne2.false)) c.push_declare.ensures
 
 pub returns-in-Load : goal.returns-in-Load
 returns-in-Load c =
-    subst (λ (o : Option (List ℕ)). IfOk c.push-load.result (λ read. Adds o (vec_items c.args.job.now) read (vec_items c.push-load.new.job)))
-    (sym (by_verb c.args.words.now _ _ c.if-words-lt1.false (ap Some (sym c.in-Load.is) ∙ c.in-Some.ensures) ∙ as_load c.args.words.now)) c.push-load.ensures
+    subst (λ (o : Option (List ℕ)). IfOk c.push_load.result (λ read. Adds o (vec_items c.args.job.now) read (vec_items c.push_load.new.job)))
+    (sym (by_verb c.args.words.now _ _ c.if-words-lt1.false (ap Some (sym c.in-Load.is) ∙ c.in-Some.ensures) ∙ as_load c.args.words.now)) c.push_load.ensures
 
-pub returns-in-ok-extend-from-slice : goal.returns-in-ok-extend-from-slice
-returns-in-ok-extend-from-slice c =
-    adds_some _ _ _ _ (by_verb c.args.words.now _ _ c.if-words-lt1.false (ap Some (sym c.in-Compare.is) ∙ c.in-Some.ensures) ∙ as_compare c.args.words.now _ _ _ c.if-words-ne4.false ∙ sym c.in-Some-compare.ensures) c.in-ok-extend-from-slice.ensures.items
+pub returns-in_ok-extend_from_slice : goal.returns-in_ok-extend_from_slice
+returns-in_ok-extend_from_slice c =
+    adds_some _ _ _ _ (by_verb c.args.words.now _ _ c.if-words-lt1.false (ap Some (sym c.in-Compare.is) ∙ c.in-Some.ensures) ∙ as_compare c.args.words.now _ _ _ c.if-words-ne4.false ∙ sym c.in-Some-compare.ensures) c.in_ok-extend_from_slice.ensures.items
 
 pub returns-in-None : goal.returns-in-None
 returns-in-None c = adds_none _ _ _ (by_verb c.args.words.now _ _ c.if-words-lt1.false (ap Some (sym c.in-Compare.is) ∙ c.in-Some.ensures) ∙ as_compare c.args.words.now _ _ _ c.if-words-ne4.false ∙ sym c.in-None.ensures)
 
-pub returns-in-ok-extend-from-slice-2 : goal.returns-in-ok-extend-from-slice-2
-returns-in-ok-extend-from-slice-2 c =
-    adds_some _ _ _ _ (by_verb c.args.words.now _ _ c.if-words-lt1.false (ap Some (sym c.in-Ask.is) ∙ c.in-Some.ensures) ∙ as_ask c.args.words.now _ _ c.if-words-ne3.false ∙ sym c.in-Some-ask.ensures) c.in-ok-extend-from-slice-2.ensures.items
+pub returns-in_ok-extend_from_slice-2 : goal.returns-in_ok-extend_from_slice-2
+returns-in_ok-extend_from_slice-2 c =
+    adds_some _ _ _ _ (by_verb c.args.words.now _ _ c.if-words-lt1.false (ap Some (sym c.in-Ask.is) ∙ c.in-Some.ensures) ∙ as_ask c.args.words.now _ _ c.if-words-ne3.false ∙ sym c.in-Some-ask.ensures) c.in_ok-extend_from_slice-2.ensures.items
 
 pub returns-in-None-ask : goal.returns-in-None-ask
 returns-in-None-ask c = adds_none _ _ _ (by_verb c.args.words.now _ _ c.if-words-lt1.false (ap Some (sym c.in-Ask.is) ∙ c.in-Some.ensures) ∙ as_ask c.args.words.now _ _ c.if-words-ne3.false ∙ sym c.in-None-ask.ensures)

@@ -10,11 +10,11 @@ loop-word-init c = read_none c.args.words.now _
 
 pub loop-word-preserved : goal.loop-word-preserved
 loop-word-preserved c =
-    read_more c.args.words.now c.loop-word.word-index c.in-Some.byte _ _ _ _ c.loop-word-test.true c.in-Some.ensures c.in-ok-push.ensures.items c.loop-word.invariant
+    read_more c.args.words.now c.loop-word.word-index c.in-Some.byte _ _ _ _ c.loop-word-test.true c.in-Some.ensures c.in_ok-push.ensures.items c.loop-word.invariant
 
 pub returns-in-None : goal.returns-in-None
 returns-in-None c = unread c.args.words.now c.loop-word.word-index _ _ _ _ _ c.loop-word-test.true c.in-None.ensures c.loop-word.invariant
 
 pub returns : goal.returns
 returns c =
-    all_read c.args.words.now c.loop-word.word-index _ _ _ c.loop-word-test.false c.if-words-gt65535.false c.in-ok-extend-from-slice.ensures.items c.loop-word.invariant
+    all_read c.args.words.now c.loop-word.word-index _ _ _ c.loop-word-test.false c.if-words-gt65535.false c.in_ok-extend_from_slice.ensures.items c.loop-word.invariant

@@ -10,6 +10,6 @@ returns g c =
     let L = g.met.A.EffectAlgebra.lawful in
     let few = g.met.A.EffectAlgebra.few in
     record {
-      counted = c.question-count-count.ensures;
+      counted = c.question_count-count.ensures;
       breaks = λ q a b lq la lb. let lt : q < c.loop-q.q = omega arith in filled_at false M.count M.count (Q.breaks q) _ L.few L.few (c.loop-q.invariant.1 q lt lq) a b la lb;
     }

@@ -13,16 +13,16 @@ loop-serial-init g c =
     let some : 0 < length ss = omega arith in
     (mod-lt c.hash.result some, some, start ss (g.K.Key.hashed c.args.key.now) c.hash.result some c.hash.ensures, λ p l q. absurd (omega arith))
 
-pub overflow-cast-serial : goal.overflow-cast-serial
-overflow-cast-serial g c =
+pub overflow_cast-serial : goal.overflow_cast-serial
+overflow_cast-serial g c =
     let ss = c.args.slots.now in
     let i = c.loop-serial.i in
     let d = c.index-slots-i.result in
     let le : (get_or ss i d).serial ≤ length ss = omega (arith, serial_read ss i (get_or ss i d) (holds_read ss i d c.loop-serial.invariant.0), c.requires i) in
     search rules
 
-pub offset-bounds-slots-serial : goal.offset-bounds-slots-serial
-offset-bounds-slots-serial g c = omega (arith, led c.args.slots.now g.K.Key.same c.args.key.now c.loop-serial.i c.loop-serial.invariant.0 c.index-slots-i.result c.index-slots-i.result c.requires c.if-serial-eq0.false)
+pub offset_bounds-slots-serial : goal.offset_bounds-slots-serial
+offset_bounds-slots-serial g c = omega (arith, led c.args.slots.now g.K.Key.same c.args.key.now c.loop-serial.i c.loop-serial.invariant.0 c.index-slots-i.result c.index-slots-i.result c.requires c.if-serial-eq0.false)
 
 pub bounds-slots-serial : goal.bounds-slots-serial
 bounds-slots-serial g c = led c.args.slots.now g.K.Key.same c.args.key.now c.loop-serial.i c.loop-serial.invariant.0 c.index-slots-i.result c.index-slots-i.result c.requires c.if-serial-eq0.false
@@ -35,7 +35,7 @@ loop-serial-preserved-then-i-n g c =
     let ss = c.args.slots.now in
     let i = c.loop-serial.i in
     let inv = c.loop-serial.invariant in
-    let here = other_here ss k.same key i inv.0 c.index-slots-i.result c.index-slots-serial.result c.requires c.if-serial-eq0.false (sym c.if-same-as.ensures) in
+    let here = other_here ss k.same key i inv.0 c.index-slots-i.result c.index-slots-serial.result c.requires c.if-serial-eq0.false (sym c.if-same_as.ensures) in
     let more : c.loop-serial.probed + 1 < length ss = let ne = c.if-probed-n.false in omega (arith, inv.1) in
     (omega arith, more, round ss (k.hashed key) i c.loop-serial.probed inv.0 inv.2 c.if-i-n.true more, passed_more ss (k.hashed key) i c.loop-serial.probed inv.0 inv.2 k.same key inv.3 here)
 
@@ -47,7 +47,7 @@ loop-serial-preserved g c =
     let ss = c.args.slots.now in
     let i = c.loop-serial.i in
     let inv = c.loop-serial.invariant in
-    let here = other_here ss k.same key i inv.0 c.index-slots-i.result c.index-slots-serial.result c.requires c.if-serial-eq0.false (sym c.if-same-as.ensures) in
+    let here = other_here ss k.same key i inv.0 c.index-slots-i.result c.index-slots-serial.result c.requires c.if-serial-eq0.false (sym c.if-same_as.ensures) in
     let more : c.loop-serial.probed + 1 < length ss = let ne = c.if-probed-n.false in omega (arith, inv.1) in
     let on : i + 1 < length ss = let ne = c.if-i-n.false in omega (arith, inv.0) in
     (on, more, next ss (k.hashed key) i c.loop-serial.probed inv.0 inv.2 on more, passed_more ss (k.hashed key) i c.loop-serial.probed inv.0 inv.2 k.same key inv.3 here)
@@ -70,8 +70,8 @@ returns-then-serial-eq0 g c =
     }
 
 -- at the key
-pub returns-then-same-as : goal.returns-then-same-as
-returns-then-same-as g c =
+pub returns-then-same_as : goal.returns-then-same_as
+returns-then-same_as g c =
     let ss = c.args.slots.now in
     let i = c.loop-serial.i in
     let inv = c.loop-serial.invariant in
@@ -80,7 +80,7 @@ returns-then-same-as g c =
       sought = record {
         within = omega (arith, inv.0, long_serials ss);
         passed = λ p l q. inv.3 p l (omega (arith, inv.2));
-        there = there_here ss g.K.Key.same c.args.key.now i inv.0 c.index-slots-i.result c.index-slots-serial.result c.requires c.if-serial-eq0.false (sym c.if-same-as.ensures);
+        there = there_here ss g.K.Key.same c.args.key.now i inv.0 c.index-slots-i.result c.index-slots-serial.result c.requires c.if-serial-eq0.false (sym c.if-same_as.ensures);
       };
     }
 
@@ -92,5 +92,5 @@ returns-then-probed-n g c =
     let ss = c.args.slots.now in
     let i = c.loop-serial.i in
     let inv = c.loop-serial.invariant in
-    let here = other_here ss k.same key i inv.0 c.index-slots-i.result c.index-slots-serial.result c.requires c.if-serial-eq0.false (sym c.if-same-as.ensures) in
+    let here = other_here ss k.same key i inv.0 c.index-slots-i.result c.index-slots-serial.result c.requires c.if-serial-eq0.false (sym c.if-same_as.ensures) in
     record { sought = passed_all ss (k.hashed key) i c.loop-serial.probed inv.0 inv.2 k.same key inv.3 here c.if-probed-n.true; near = tt }

@@ -28,7 +28,7 @@ returns-in-Declare c = record {
   lent = c.declare.ensures.lent;
   moves = λ K Q cat u.
       let e = c.declare.ensures.moves K Q cat u in
-      subst (λ x. Answered K Q (numbering c.args.shelf.now) cat x c.fact-answer.result × Moved K Q c.args.shelf.now c.declare.new.self cat (after K cat x)) (sym c.in-Declare.is) (c.fact-answer.ensures ∙ ap (told Fact) e.0, e.1);
+      subst (λ x. Answered K Q (numbering c.args.shelf.now) cat x c.fact_answer.result × Moved K Q c.args.shelf.now c.declare.new.self cat (after K cat x)) (sym c.in-Declare.is) (c.fact_answer.ensures ∙ ap (told Fact) e.0, e.1);
 }
 
 pub returns-in-Find : goal.returns-in-Find
@@ -84,7 +84,7 @@ returns-in-Ask c = record {
   lent = record { slots = refl; name_slots = refl };
   moves = λ K Q cat u.
       let e = c.ask.ensures.stands K Q cat u in
-      subst (λ x. Answered K Q (numbering c.args.shelf.now) cat x c.code-answer.result × Moved K Q c.args.shelf.now c.args.shelf.now cat (after K cat x)) (sym c.in-Ask.is) (c.code-answer.ensures ∙ ap (told Code) e, record { stands = u; stay = λ p h k. refl });
+      subst (λ x. Answered K Q (numbering c.args.shelf.now) cat x c.code_answer.result × Moved K Q c.args.shelf.now c.args.shelf.now cat (after K cat x)) (sym c.in-Ask.is) (c.code_answer.ensures ∙ ap (told Code) e, record { stands = u; stay = λ p h k. refl });
 }
 
 pub returns-in-Shape : goal.returns-in-Shape

@@ -5,36 +5,36 @@ use Rattle.tabulation.proofs.order.+push_requests.Goals as goal
 
 pub returns-then-left-eq0 : goal.returns-then-left-eq0
 returns-then-left-eq0 t c =
-    c.in-ok-push.ensures.items
+    c.in_ok-push.ensures.items
     ∙ ap (λ (xs : List ℕ). vec_items c.args.out.now ++ xs)
     (sym (laid_none c.args.mask c.args.weight) ∙ ap (λ (n : ℕ). map (λ q. c.args.mask + c.args.weight * q) (requests n)) (sym c.if-left-eq0.true))
 
-pub overflow-mul-weight : goal.overflow-mul-weight
-overflow-mul-weight t c =
+pub overflow_mul-weight : goal.overflow_mul-weight
+overflow_mul-weight t c =
     let e : c.args.left ≡ suc (c.args.left - 1) = omega arith in
     let w = weight_fits c.args.weight (c.args.left - 1) c.args.left 65536 e c.requires.1 in
     omega arith
 
-pub overflow-mul-weight-2 : goal.overflow-mul-weight-2
-overflow-mul-weight-2 t c =
+pub overflow_mul-weight-2 : goal.overflow_mul-weight-2
+overflow_mul-weight-2 t c =
     let e : c.args.left ≡ suc (c.args.left - 1) = omega arith in
     let w = weight_fits c.args.weight (c.args.left - 1) c.args.left 65536 e c.requires.1 in
     omega arith
 
-pub overflow-add-mask : goal.overflow-add-mask
-overflow-add-mask t c =
+pub overflow_add-mask : goal.overflow_add-mask
+overflow_add-mask t c =
     let e : c.args.left ≡ suc (c.args.left - 1) = omega arith in
     let w = weight_fits c.args.weight (c.args.left - 1) c.args.left 65536 e c.requires.1 in
     omega arith
 
-pub push-requests-requires : goal.push-requests-requires
-push-requests-requires t c =
+pub push_requests-requires : goal.push_requests-requires
+push_requests-requires t c =
     let e : c.args.left ≡ suc (c.args.left - 1) = omega arith in
     let w = weight_more c.args.weight (c.args.left - 1) c.args.left e in
     (omega arith, (omega arith, omega arith))
 
-pub push-requests-requires-2 : goal.push-requests-requires-2
-push-requests-requires-2 t c =
+pub push_requests-requires-2 : goal.push_requests-requires-2
+push_requests-requires-2 t c =
     let e : c.args.left ≡ suc (c.args.left - 1) = omega arith in
     let w = weight_more c.args.weight (c.args.left - 1) c.args.left e in
     (omega arith, (omega arith, omega arith))
@@ -46,7 +46,7 @@ returns t c =
     let m = c.args.left - 1 in
     let low = map (λ q. c.args.mask + p * 2 * q) (requests m) in
     let high = map (λ q. (c.args.mask + p) + p * 2 * q) (requests m) in
-    c.in-ok-push-requests-2.ensures
-    ∙ ap (λ (xs : List ℕ). xs ++ high) c.in-ok-push-requests.ensures
+    c.in_ok-push_requests-2.ensures
+    ∙ ap (λ (xs : List ℕ). xs ++ high) c.in_ok-push_requests.ensures
     ∙ append_assoc (vec_items c.args.out.now) low high
     ∙ ap (λ (xs : List ℕ). vec_items c.args.out.now ++ xs) (sym (laid_more c.args.mask p m c.args.left e))

@@ -8,7 +8,7 @@ use Rattle.tabulation.proofs.tables.fill.Goals as goal
 pub returns-in-Err : goal.returns-in-Err
 returns-in-Err g c =
     let M = g.A.EffectAlgebra.effects in
-    (c.loop-mask.mask-index, c.loop-mask-test.true, sym (c.in-Err.ensures (codes M) (closed M g.met.A.EffectAlgebra.lawful) c.effect-tables-tables.ensures))
+    (c.loop-mask.mask-index, c.loop-mask-test.true, sym (c.in-Err.ensures (codes M) (closed M g.met.A.EffectAlgebra.lawful) c.effect_tables-tables.ensures))
 
 pub loop-mask-preserved : goal.loop-mask-preserved
 loop-mask-preserved g c =
@@ -17,8 +17,8 @@ loop-mask-preserved g c =
     let ms = c.args.masks.now in
     let k = c.loop-mask.mask-index in
     let lt = c.loop-mask-test.true in
-    let items = c.in-ok-push.ensures.items in
-    let told = c.in-Ok.ensures (codes M) (closed M g.met.A.EffectAlgebra.lawful) c.effect-tables-tables.ensures in (
+    let items = c.in_ok-push.ensures.items in
+    let told = c.in-Ok.ensures (codes M) (closed M g.met.A.EffectAlgebra.lawful) c.effect_tables-tables.ensures in (
       masks_more (vec_items c.loop-mask.rows) _ _ ms k lt items c.loop-mask.invariant.0 refl,
       answers_more (read_answer (codes M) i.facts i.tape.now) (vec_items c.loop-mask.rows) _ _ ms k lt items c.loop-mask.invariant.1 told,
     )

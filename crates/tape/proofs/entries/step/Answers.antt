@@ -3,25 +3,25 @@ use Rattle.std.proofs.lemmas.Result.{err_from_is_err_and}
 use Rattle.tape.proofs.Stepping.{held_at, step_refused, step_ok, step_full}
 use Rattle.tape.proofs.entries.step.Goals as goal
 
-pub returns-in-err-command : goal.returns-in-err-command
-returns-in-err-command g c =
+pub returns-in_err-command : goal.returns-in_err-command
+returns-in_err-command g c =
     let s = c.args.on.now in
-    let p = err_from_is_err_and c.from-residual.result c.from-residual.ensures.1 in
+    let p = err_from_is_err_and c.from_residual.result c.from_residual.ensures.1 in
     rw (p.1, p.2) (record {
       ready = c.requires.1;
       kept = g.E.Entries.lasts.same s;
       some = tt;
-      stands = λ K row C T h. step_refused g.E.Entries.model K c.args.tables.now T c.args.facts s c.args.stack.now row c.args.bytes.now _ (g.E.Entries.lasts.still s) c.in-err-command.ensures.said h;
+      stands = λ K row C T h. step_refused g.E.Entries.model K c.args.tables.now T c.args.facts s c.args.stack.now row c.args.bytes.now _ (g.E.Entries.lasts.still s) c.in_err-command.ensures.said h;
     })
 
-pub returns-in-err-entry : goal.returns-in-err-entry
-returns-in-err-entry g c =
+pub returns-in_err-entry : goal.returns-in_err-entry
+returns-in_err-entry g c =
     let M = g.E.Entries.model in
     let s = c.args.on.now in
     let t = c.make.new.on in
     let st = c.args.stack.now in
     let z = c.constant-none.result in
-    let p = err_from_is_err_and c.from-residual-in-err-entry.result c.from-residual-in-err-entry.ensures.1 in
+    let p = err_from_is_err_and c.from_residual-in_err-entry.result c.from_residual-in_err-entry.ensures.1 in
     rw (p.1, p.2) (record {
       ready = c.make.ensures.ready;
       kept = c.make.ensures.kept;
@@ -29,8 +29,8 @@ returns-in-err-entry g c =
       stands = λ K row C T h.
           let a = held_at M K s st row z c.under-top.result 0 c.constant-none.ensures h c.under-top.ensures in
           let b = held_at M K s st row z c.under-second.result 1 c.constant-none.ensures h c.under-second.ensures in
-          step_full M K c.args.tables.now T c.args.facts s t st row c.args.bytes.now c.in-ok-command.command c.in-ok-command.count _
-          (λ e f m. g.E.Entries.lasts.keeps s t e f c.make.ensures.kept m) c.in-ok-command.ensures.said h (c.in-err-entry.ensures.gives _ _ a b);
+          step_full M K c.args.tables.now T c.args.facts s t st row c.args.bytes.now c.in_ok-command.command c.in_ok-command.count _
+          (λ e f m. g.E.Entries.lasts.keeps s t e f c.make.ensures.kept m) c.in_ok-command.ensures.said h (c.in_err-entry.ensures.gives _ _ a b);
     })
 
 pub returns : goal.returns
@@ -43,10 +43,10 @@ returns g c =
     record {
       ready = c.make.ensures.ready;
       kept = c.make.ensures.kept;
-      some = (c.in-ok-command.ensures.safe.2, c.in-ok-command.ensures.safe.3);
+      some = (c.in_ok-command.ensures.safe.2, c.in_ok-command.ensures.safe.3);
       stands = λ K row C T h.
           let a = held_at M K s st row z c.under-top.result 0 c.constant-none.ensures h c.under-top.ensures in
           let b = held_at M K s st row z c.under-second.result 1 c.constant-none.ensures h c.under-second.ensures in
-          step_ok M K c.args.tables.now C T c.args.facts s t st c.put.new.self row c.args.bytes.now c.in-ok-command.command c.in-ok-command.count c.in-ok-entry.entry
-          (λ e f m. g.E.Entries.lasts.keeps s t e f c.make.ensures.kept m) c.in-ok-command.ensures.said h (c.in-ok-entry.ensures.gives _ _ a b) c.put.ensures;
+          step_ok M K c.args.tables.now C T c.args.facts s t st c.put.new.self row c.args.bytes.now c.in_ok-command.command c.in_ok-command.count c.in_ok-entry.entry
+          (λ e f m. g.E.Entries.lasts.keeps s t e f c.make.ensures.kept m) c.in_ok-command.ensures.said h (c.in_ok-entry.ensures.gives _ _ a b) c.put.ensures;
     }

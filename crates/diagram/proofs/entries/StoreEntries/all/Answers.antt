@@ -13,5 +13,5 @@ returns c =
     record {
       ready = c.all.ensures.ready;
       kept = c.all.ensures.later;
-      gives = subst (Gives store_model false s t (λ q. bit (all c.args.mask q))) (sym c.or-no-slot.ensures) (gives_from s t (λ q. bit (all c.args.mask q)) c.all.result c.all.ensures.gives);
+      gives = subst (Gives store_model false s t (λ q. bit (all c.args.mask q))) (sym c.or_no_slot.ensures) (gives_from s t (λ q. bit (all c.args.mask q)) c.all.result c.all.ensures.gives);
     }

@@ -13,5 +13,5 @@ returns c =
     record {
       ready = c.any.ensures.ready;
       kept = c.any.ensures.later;
-      gives = subst (Gives store_model false s t (λ q. bit (any c.args.mask q))) (sym c.or-no-slot.ensures) (gives_from s t (λ q. bit (any c.args.mask q)) c.any.result c.any.ensures.gives);
+      gives = subst (Gives store_model false s t (λ q. bit (any c.args.mask q))) (sym c.or_no_slot.ensures) (gives_from s t (λ q. bit (any c.args.mask q)) c.any.result c.any.ensures.gives);
     }

@@ -12,6 +12,6 @@ returns c =
     record {
       ready = c.apply.ensures.ready;
       kept = c.apply.ensures.later;
-      gives = λ f g mf mg. subst (Gives store_model false s t (λ q. cell c.args.table.now (f q) (g q))) (sym c.or-no-slot.ensures)
+      gives = λ f g mf mg. subst (Gives store_model false s t (λ q. cell c.args.table.now (f q) (g q))) (sym c.or_no_slot.ensures)
           (gives_from s t (λ q. cell c.args.table.now (f q) (g q)) c.apply.result (c.apply.ensures.gives f g mf.same mg.same));
     }

@@ -13,5 +13,5 @@ returns c =
     record {
       ready = c.fact.ensures.ready;
       kept = c.fact.ensures.later;
-      gives = subst (Gives store_model false s t (λ q. bit (has c.args.fact q))) (sym c.or-no-slot.ensures) (gives_from s t (λ q. bit (has c.args.fact q)) c.fact.result c.fact.ensures.gives);
+      gives = subst (Gives store_model false s t (λ q. bit (has c.args.fact q))) (sym c.or_no_slot.ensures) (gives_from s t (λ q. bit (has c.args.fact q)) c.fact.result c.fact.ensures.gives);
     }

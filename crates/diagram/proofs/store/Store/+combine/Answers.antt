@@ -40,16 +40,16 @@ combine-requires t c =
       ),
     )
 
-pub returns-in-err-low : goal.returns-in-err-low
-returns-in-err-low t c =
+pub returns-in_err-low : goal.returns-in_err-low
+returns-in_err-low t c =
     let P = c.split-sides.ensures c.args.from c.requires.below.2 c.requires.later.0 c.requires.later.1 in
     let s = c.args.self.now in
-    let p = err_from_is_err_and c.from-residual.result c.from-residual.ensures.1 in
+    let p = err_from_is_err_and c.from_residual.result c.from_residual.ensures.1 in
     record {
       whole = c.combine.ensures.whole;
       width = c.combine.ensures.width;
       gives = subst (Answer 32 (slots s) (nodes s) (nodes c.combine.new.self) (inserted (trees (nodes s)) (both 32 c.args.from (nodes s) c.args.first c.args.second c.split-sides.result P (cell c.args.table.now))) (both 32 c.args.from (nodes s) c.args.first c.args.second c.split-sides.result P (cell c.args.table.now))) (sym p.1)
-          (combined_refused_low 32 c.args.from (nodes s) c.args.first c.args.second c.split-sides.result P (cell c.args.table.now) (slots s) c.requires.stands.good (nodes c.combine.new.self) c.in-err-low.ensures.gives);
+          (combined_refused_low 32 c.args.from (nodes s) c.args.first c.args.second c.split-sides.result P (cell c.args.table.now) (slots s) c.requires.stands.good (nodes c.combine.new.self) c.in_err-low.ensures.gives);
     }
 
 pub combine-requires-2 : goal.combine-requires-2
@@ -57,7 +57,7 @@ combine-requires-2 t c =
     let P = c.split-sides.ensures c.args.from c.requires.below.2 c.requires.later.0 c.requires.later.1 in
     let s = c.args.self.now in
     let s₁ = c.combine.new.self in
-    let m = c.in-ok-low.ensures.gives in
+    let m = c.in_ok-low.ensures.gives in
     let l = begins_length (nodes s) (nodes s₁) m.begins in (
       omega (arith, P.below, P.from),
       (
@@ -67,29 +67,29 @@ combine-requires-2 t c =
           (
             (omega (arith, P.first.high_within, l), omega (arith, P.second.high_within, l), omega (arith, P.below)),
             (
-              high_first_later 32 c.args.from (nodes s) c.args.first c.args.second c.split-sides.result P (cell c.args.table.now) (slots s) c.requires.stands.good (nodes s₁) c.in-ok-low.low m,
-              high_second_later 32 c.args.from (nodes s) c.args.first c.args.second c.split-sides.result P (cell c.args.table.now) (slots s) c.requires.stands.good (nodes s₁) c.in-ok-low.low m,
+              high_first_later 32 c.args.from (nodes s) c.args.first c.args.second c.split-sides.result P (cell c.args.table.now) (slots s) c.requires.stands.good (nodes s₁) c.in_ok-low.low m,
+              high_second_later 32 c.args.from (nodes s) c.args.first c.args.second c.split-sides.result P (cell c.args.table.now) (slots s) c.requires.stands.good (nodes s₁) c.in_ok-low.low m,
             ),
           ),
         ),
       ),
     )
 
-pub returns-in-err-high : goal.returns-in-err-high
-returns-in-err-high t c =
+pub returns-in_err-high : goal.returns-in_err-high
+returns-in_err-high t c =
     let P = c.split-sides.ensures c.args.from c.requires.below.2 c.requires.later.0 c.requires.later.1 in
     let s = c.args.self.now in
     let s₁ = c.combine.new.self in
     let s₂ = c.combine-2.new.self in
-    let m = c.in-ok-low.ensures.gives in
-    let p = err_from_is_err_and c.from-residual-in-err-high.result c.from-residual-in-err-high.ensures.1 in
+    let m = c.in_ok-low.ensures.gives in
+    let p = err_from_is_err_and c.from_residual-in_err-high.result c.from_residual-in_err-high.ensures.1 in
     let r : Refused (slots s) (nodes s₁) (nodes s₂) (inserted (trees (nodes s₁)) (highs 32 c.args.from (nodes s) c.args.first c.args.second c.split-sides.result P (cell c.args.table.now) (nodes s₁))) =
-    subst (λ n. Refused n (nodes s₁) (nodes s₂) (inserted (trees (nodes s₁)) (highs 32 c.args.from (nodes s) c.args.first c.args.second c.split-sides.result P (cell c.args.table.now) (nodes s₁)))) c.combine.ensures.width c.in-err-high.ensures.gives in
+    subst (λ n. Refused n (nodes s₁) (nodes s₂) (inserted (trees (nodes s₁)) (highs 32 c.args.from (nodes s) c.args.first c.args.second c.split-sides.result P (cell c.args.table.now) (nodes s₁)))) c.combine.ensures.width c.in_err-high.ensures.gives in
     record {
       whole = c.combine-2.ensures.whole;
       width = c.combine-2.ensures.width ∙ c.combine.ensures.width;
       gives = subst (Answer 32 (slots s) (nodes s) (nodes s₂) (inserted (trees (nodes s)) (both 32 c.args.from (nodes s) c.args.first c.args.second c.split-sides.result P (cell c.args.table.now))) (both 32 c.args.from (nodes s) c.args.first c.args.second c.split-sides.result P (cell c.args.table.now))) (sym p.1)
-          (combined_refused_high 32 c.args.from (nodes s) c.args.first c.args.second c.split-sides.result P (cell c.args.table.now) (slots s) c.requires.stands.good (nodes s₁) c.in-ok-low.low m (nodes s₂) r);
+          (combined_refused_high 32 c.args.from (nodes s) c.args.first c.args.second c.split-sides.result P (cell c.args.table.now) (slots s) c.requires.stands.good (nodes s₁) c.in_ok-low.low m (nodes s₂) r);
     }
 
 pub test-requires : goal.test-requires
@@ -98,14 +98,14 @@ test-requires t c =
     let s = c.args.self.now in
     let s₁ = c.combine.new.self in
     let s₂ = c.combine-2.new.self in
-    let m = c.in-ok-low.ensures.gives in
-    let m₂ = c.in-ok-high.ensures.gives in
+    let m = c.in_ok-low.ensures.gives in
+    let m₂ = c.in_ok-high.ensures.gives in
     record {
       stands = standing_after s s₂ c.requires.stands c.combine-2.ensures.whole (c.combine-2.ensures.width ∙ c.combine.ensures.width) m₂.good;
       below = (omega (arith, m.within, begins_length (nodes s₁) (nodes s₂) m₂.begins), m₂.within, P.below);
       later = (
-        combined_low_neat 32 c.args.from (nodes s) c.args.first c.args.second c.split-sides.result P (cell c.args.table.now) (slots s) c.requires.stands.good (nodes s₁) c.in-ok-low.low m (nodes s₂) c.in-ok-high.high m₂,
-        combined_high_neat 32 c.args.from (nodes s) c.args.first c.args.second c.split-sides.result P (cell c.args.table.now) (slots s) c.requires.stands.good (nodes s₁) c.in-ok-low.low m (nodes s₂) c.in-ok-high.high m₂,
+        combined_low_neat 32 c.args.from (nodes s) c.args.first c.args.second c.split-sides.result P (cell c.args.table.now) (slots s) c.requires.stands.good (nodes s₁) c.in_ok-low.low m (nodes s₂) c.in_ok-high.high m₂,
+        combined_high_neat 32 c.args.from (nodes s) c.args.first c.args.second c.split-sides.result P (cell c.args.table.now) (slots s) c.requires.stands.good (nodes s₁) c.in_ok-low.low m (nodes s₂) c.in_ok-high.high m₂,
       );
     }
 
@@ -116,12 +116,12 @@ returns t c =
     let s₁ = c.combine.new.self in
     let s₂ = c.combine-2.new.self in
     let s₃ = c.test.new.self in
-    let m = c.in-ok-low.ensures.gives in
-    let m₂ = c.in-ok-high.ensures.gives in
+    let m = c.in_ok-low.ensures.gives in
+    let m₂ = c.in_ok-high.ensures.gives in
     let w = c.combine-2.ensures.width ∙ c.combine.ensures.width in
     record {
       whole = c.test.ensures.whole;
       width = c.test.ensures.width ∙ w;
-      gives = combined 32 c.args.from (nodes s) c.args.first c.args.second c.split-sides.result P (cell c.args.table.now) (slots s) c.requires.stands.good (nodes s₁) c.in-ok-low.low m (nodes s₂) c.in-ok-high.high m₂ (nodes s₃) c.test.result
-          (subst (λ n. Answer 32 n (nodes s₂) (nodes s₃) (tested (trees (nodes s₂)) c.split-sides.result.fact (meant (nodes s₂) c.in-ok-low.low) (meant (nodes s₂) c.in-ok-high.high)) (mk c.split-sides.result.fact (meant (nodes s₂) c.in-ok-low.low) (meant (nodes s₂) c.in-ok-high.high)) c.test.result) w c.test.ensures.gives);
+      gives = combined 32 c.args.from (nodes s) c.args.first c.args.second c.split-sides.result P (cell c.args.table.now) (slots s) c.requires.stands.good (nodes s₁) c.in_ok-low.low m (nodes s₂) c.in_ok-high.high m₂ (nodes s₃) c.test.result
+          (subst (λ n. Answer 32 n (nodes s₂) (nodes s₃) (tested (trees (nodes s₂)) c.split-sides.result.fact (meant (nodes s₂) c.in_ok-low.low) (meant (nodes s₂) c.in_ok-high.high)) (mk c.split-sides.result.fact (meant (nodes s₂) c.in_ok-low.low) (meant (nodes s₂) c.in_ok-high.high)) c.test.result) w c.test.ensures.gives);
     }

@@ -23,17 +23,17 @@ returns-else-every t c = record {
   gives = end_made 32 c.args.from (nodes c.args.self.now) c.requires.stands.good c.args.every c.args.mask 0 (omega arith) (ap (λ b. cond b 1 0) c.if-every.false) (omega arith);
 }
 
-pub returns-in-err-rest : goal.returns-in-err-rest
-returns-in-err-rest t c =
+pub returns-in_err-rest : goal.returns-in_err-rest
+returns-in_err-rest t c =
     let s = c.args.self.now in
     let lt : c.args.from < 32 = omega arith in
     let J = ladder c.args.every c.args.mask (32 - c.args.from) c.args.from in
-    let p = err_from_is_err_and c.from-residual.result c.from-residual.ensures.1 in
+    let p = err_from_is_err_and c.from_residual.result c.from_residual.ensures.1 in
     record {
       whole = c.ladder.ensures.whole;
       width = c.ladder.ensures.width;
       gives = subst (Answer 32 (slots s) (nodes s) (nodes c.ladder.new.self) (inserted (trees (nodes s)) J) J) (sym p.1)
-          (rest_refused 32 (slots s) c.args.from lt (nodes s) c.requires.stands.good c.args.every c.args.mask (nodes c.ladder.new.self) c.in-err-rest.ensures.gives);
+          (rest_refused 32 (slots s) c.args.from lt (nodes s) c.requires.stands.good c.args.every c.args.mask (nodes c.ladder.new.self) c.in_err-rest.ensures.gives);
     }
 
 pub returns-then-mask-from-eq0 : goal.returns-then-mask-from-eq0
@@ -43,7 +43,7 @@ returns-then-mask-from-eq0 t c =
     record {
       whole = c.ladder.ensures.whole;
       width = c.ladder.ensures.width;
-      gives = rest_made 32 (slots s) c.args.from lt (nodes s) c.requires.stands.good c.args.every c.args.mask (nodes c.ladder.new.self) c.in-ok-rest.rest c.in-ok-rest.ensures.gives
+      gives = rest_made 32 (slots s) c.args.from lt (nodes s) c.requires.stands.good c.args.every c.args.mask (nodes c.ladder.new.self) c.in_ok-rest.rest c.in_ok-rest.ensures.gives
           (ne_eqb _ 1 (λ e. omega (arith, e, c.if-mask-from-eq0.true)));
     }
 
@@ -51,22 +51,22 @@ pub test-requires : goal.test-requires
 test-requires t c =
     let s = c.args.self.now in
     let lt : c.args.from < 32 = omega arith in
-    let m = c.in-ok-rest.ensures.gives in
+    let m = c.in_ok-rest.ensures.gives in
     record {
       stands = standing_after s c.ladder.new.self c.requires.stands c.ladder.ensures.whole c.ladder.ensures.width m.good;
       below = (omega arith, m.within, lt);
-      later = (tt, rest_neat 32 (slots s) c.args.from lt (nodes s) c.requires.stands.good c.args.every c.args.mask (nodes c.ladder.new.self) c.in-ok-rest.rest m);
+      later = (tt, rest_neat 32 (slots s) c.args.from lt (nodes s) c.requires.stands.good c.args.every c.args.mask (nodes c.ladder.new.self) c.in_ok-rest.rest m);
     }
 
 pub test-requires-else-every-2 : goal.test-requires-else-every-2
 test-requires-else-every-2 t c =
     let s = c.args.self.now in
     let lt : c.args.from < 32 = omega arith in
-    let m = c.in-ok-rest.ensures.gives in
+    let m = c.in_ok-rest.ensures.gives in
     record {
       stands = standing_after s c.ladder.new.self c.requires.stands c.ladder.ensures.whole c.ladder.ensures.width m.good;
       below = (m.within, omega arith, lt);
-      later = (rest_neat 32 (slots s) c.args.from lt (nodes s) c.requires.stands.good c.args.every c.args.mask (nodes c.ladder.new.self) c.in-ok-rest.rest m, tt);
+      later = (rest_neat 32 (slots s) c.args.from lt (nodes s) c.requires.stands.good c.args.every c.args.mask (nodes c.ladder.new.self) c.in_ok-rest.rest m, tt);
     }
 
 pub returns-then-every-2 : goal.returns-then-every-2
@@ -79,9 +79,9 @@ returns-then-every-2 t c =
     record {
       whole = c.test.ensures.whole;
       width = c.test.ensures.width ∙ c.ladder.ensures.width;
-      gives = every_made 32 (slots s) k lt (nodes s) c.requires.stands.good c.args.every c.args.mask ys c.in-ok-rest.rest c.in-ok-rest.ensures.gives
+      gives = every_made 32 (slots s) k lt (nodes s) c.requires.stands.good c.args.every c.args.mask ys c.in_ok-rest.rest c.in_ok-rest.ensures.gives
           (eq-eqb _ 1 (omega (arith, c.if-mask-from-eq0.false))) c.if-every-2.true zs c.test.result
-          (subst (λ n. Answer 32 n ys zs (tested (trees ys) k (meant ys 0) (meant ys c.in-ok-rest.rest)) (mk k (meant ys 0) (meant ys c.in-ok-rest.rest)) c.test.result) c.ladder.ensures.width c.test.ensures.gives);
+          (subst (λ n. Answer 32 n ys zs (tested (trees ys) k (meant ys 0) (meant ys c.in_ok-rest.rest)) (mk k (meant ys 0) (meant ys c.in_ok-rest.rest)) c.test.result) c.ladder.ensures.width c.test.ensures.gives);
     }
 
 pub returns-else-every-2 : goal.returns-else-every-2
@@ -94,7 +94,7 @@ returns-else-every-2 t c =
     record {
       whole = c.test-else-every-2.ensures.whole;
       width = c.test-else-every-2.ensures.width ∙ c.ladder.ensures.width;
-      gives = any_made 32 (slots s) k lt (nodes s) c.requires.stands.good c.args.every c.args.mask ys c.in-ok-rest.rest c.in-ok-rest.ensures.gives
+      gives = any_made 32 (slots s) k lt (nodes s) c.requires.stands.good c.args.every c.args.mask ys c.in_ok-rest.rest c.in_ok-rest.ensures.gives
           (eq-eqb _ 1 (omega (arith, c.if-mask-from-eq0.false))) c.if-every-2.false zs c.test-else-every-2.result
-          (subst (λ n. Answer 32 n ys zs (tested (trees ys) k (meant ys c.in-ok-rest.rest) (meant ys 1)) (mk k (meant ys c.in-ok-rest.rest) (meant ys 1)) c.test-else-every-2.result) c.ladder.ensures.width c.test-else-every-2.ensures.gives);
+          (subst (λ n. Answer 32 n ys zs (tested (trees ys) k (meant ys c.in_ok-rest.rest) (meant ys 1)) (mk k (meant ys c.in_ok-rest.rest) (meant ys 1)) c.test-else-every-2.result) c.ladder.ensures.width c.test-else-every-2.ensures.gives);
     }

@@ -73,8 +73,8 @@ search-requires-2 t c =
       ),
     )
 
-pub overflow-add-result : goal.overflow-add-result
-overflow-add-result t c =
+pub overflow_add-result : goal.overflow_add-result
+overflow_add-result t c =
     let P = c.split-sides.ensures c.args.from c.requires.below.2 c.requires.later.0 c.requires.later.1 in
     let f = c.split-sides.result.fact in
     let xs = nodes c.args.self.now in
@@ -93,14 +93,14 @@ returns-in-Some-search-2 t c =
       whole = c.search-2.ensures.whole;
       searched = c.search-2.ensures.searched;
       finds = subst (λ x. FirstFrom 32 c.args.from (Breaks c.args.question.now (says (meant xs c.args.first)) (says (meant xs c.args.second))) (c.in-Some-search-2.rest + x)) (sym e)
-          (found_high 32 c.args.from xs c.args.question.now c.args.first c.args.second c.split-sides.result P c.in-default-search.ensures.finds c.in-Some-search-2.rest c.in-Some-search-2.ensures.finds);
+          (found_high 32 c.args.from xs c.args.question.now c.args.first c.args.second c.split-sides.result P c.in_default-search.ensures.finds c.in-Some-search-2.rest c.in-Some-search-2.ensures.finds);
     }
 
 pub returns : goal.returns
 returns t c =
     let P = c.split-sides.ensures c.args.from c.requires.below.2 c.requires.later.0 c.requires.later.1 in
     let xs = nodes c.args.self.now in
-    let kept = found_none 32 c.args.from xs c.args.question.now c.args.first c.args.second c.split-sides.result P c.in-default-search.ensures.finds c.in-default-search-2.ensures.finds in
+    let kept = found_none 32 c.args.from xs c.args.question.now c.args.first c.args.second c.split-sides.result P c.in_default-search.ensures.finds c.in_default-search-2.ensures.finds in
     record {
       whole = c.insert.ensures.sound;
       searched = searched_more 32 c.args.question.now xs (record { first = c.args.first; second = c.args.second }) (room c.search-2.new.seen) (keys c.search-2.new.seen) (keys c.insert.new.self) c.insert.ensures.listed kept c.search-2.ensures.searched;

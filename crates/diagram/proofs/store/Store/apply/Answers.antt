@@ -57,7 +57,7 @@ returns-in-Ok c =
 pub returns-in-Err : goal.returns-in-Err
 returns-in-Err c =
     let s = c.args.self.now in
-    let t : Store = record { unique = c.roll-back.new.self } in
+    let t : Store = record { unique = c.roll_back.new.self } in
     let st = opened s c.requires.ready in
     let op = cell c.args.table.now in
     let A = meant (nodes s) c.known-a.result in
@@ -65,9 +65,9 @@ returns-in-Err c =
     let wa = tree_neat 32 (nodes s) st.good c.known-a.result c.known-a.ensures.within in
     let wb = tree_neat 32 (nodes s) st.good c.known-b.result c.known-b.ensures.within in
     let m = c.in-Err.ensures.gives in
-    let u : Unchanged s t = rolled_back s t (nodes c.combine.new.self) c.count-before.result (c.roll-back.ensures.width ∙ c.combine.ensures.width) m.begins c.count-before.ensures.number c.roll-back.ensures.listed in
+    let u : Unchanged s t = rolled_back s t (nodes c.combine.new.self) c.count-before.result (c.roll_back.ensures.width ∙ c.combine.ensures.width) m.begins c.count-before.ensures.number c.roll_back.ensures.listed in
     record {
-      ready = ∣ standing_unchanged s t st u c.roll-back.ensures.sound ∣₁;
+      ready = ∣ standing_unchanged s t st u c.roll_back.ensures.sound ∣₁;
       later = later_unchanged s t u;
       gives = λ f g ef eg. too_many s t st (λ q. op (f q) (g q)) (applied op 32 0 A B) (applied_neat op 32 32 0 (omega arith) A B)
           (applied_says op 32 A B wa wb f g (still s c.known-a.result c.args.first f c.known-a.ensures.means ef) (still s c.known-b.result c.args.second g c.known-b.ensures.means eg))

@@ -13,8 +13,8 @@ known-here-requires c = opened c.args.self.now c.requires
 pub node-requires : goal.node-requires
 node-requires c = opened c.args.self.now c.requires
 
-pub overflow-shr-request : goal.overflow-shr-request
-overflow-shr-request c = (walked 32 (nodes c.args.self.now) (opened c.args.self.now c.requires).good c.loop-node.here c.in-Some.node c.args.request c.in-Some.ensures).fact
+pub overflow_shr-request : goal.overflow_shr-request
+overflow_shr-request c = (walked 32 (nodes c.args.self.now) (opened c.args.self.now c.requires).good c.loop-node.here c.in-Some.node c.args.request c.in-Some.ensures).fact
 
 pub loop-node-smaller-then-request-node-eq1 : goal.loop-node-smaller-then-request-node-eq1
 loop-node-smaller-then-request-node-eq1 c = (walked 32 (nodes c.args.self.now) (opened c.args.self.now c.requires).good c.loop-node.here c.in-Some.node c.args.request c.in-Some.ensures).high_older
@@ -32,10 +32,10 @@ loop-node-preserved c =
     let w = walked 32 (nodes c.args.self.now) (opened c.args.self.now c.requires).good c.loop-node.here c.in-Some.node c.args.request c.in-Some.ensures in
     (omega (arith, w.low_older, c.loop-node.invariant.0), w.off c.if-request-node-eq1.false ∙ c.loop-node.invariant.1)
 
-pub overflow-cast-result : goal.overflow-cast-result
-overflow-cast-result c = omega (arith, node_none (nodes c.args.self.now) c.loop-node.here c.in-default.ensures c.loop-node.invariant.0)
+pub overflow_cast-result : goal.overflow_cast-result
+overflow_cast-result c = omega (arith, node_none (nodes c.args.self.now) c.loop-node.here c.in_default.ensures c.loop-node.invariant.0)
 
 pub returns : goal.returns
 returns c =
     let xs = nodes c.args.self.now in
-    sym (ap (λ t. says t c.args.request) (tree_const (trees xs) c.loop-node.here (node_none xs c.loop-node.here c.in-default.ensures c.loop-node.invariant.0))) ∙ c.loop-node.invariant.1
+    sym (ap (λ t. says t c.args.request) (tree_const (trees xs) c.loop-node.here (node_none xs c.loop-node.here c.in_default.ensures c.loop-node.invariant.0))) ∙ c.loop-node.invariant.1

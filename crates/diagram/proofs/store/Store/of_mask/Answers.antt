@@ -21,11 +21,11 @@ returns-in-Ok c =
 pub returns-in-Err : goal.returns-in-Err
 returns-in-Err c =
     let s = c.args.self.now in
-    let t : Store = record { unique = c.roll-back.new.self } in
+    let t : Store = record { unique = c.roll_back.new.self } in
     let T = ladder c.args.every c.args.mask 32 0 in
     let m = c.in-Err.ensures.gives in
-    let u : Unchanged s t = rolled_back s t (nodes c.ladder.new.self) c.count-start.result (c.roll-back.ensures.width ∙ c.ladder.ensures.width) m.begins c.count-start.ensures.number c.roll-back.ensures.listed in
+    let u : Unchanged s t = rolled_back s t (nodes c.ladder.new.self) c.count-start.result (c.roll_back.ensures.width ∙ c.ladder.ensures.width) m.begins c.count-start.ensures.number c.roll_back.ensures.listed in
     record {
-      stands = standing_unchanged s t c.requires u c.roll-back.ensures.sound;
+      stands = standing_unchanged s t c.requires u c.roll_back.ensures.sound;
       gives = λ F e. too_many s t c.requires F T (ladder_neat c.args.every c.args.mask 32 32 0 (omega arith)) e (nodes c.ladder.new.self) m u;
     }

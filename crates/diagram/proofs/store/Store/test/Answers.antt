@@ -15,11 +15,11 @@ returns-then-low-high c = record {
 number_below : (c : goal.In-Some) → c.in-Some.number < slots c.args.self.now
 number_below c = numbered_below _ (slots c.args.self.now) (nodes c.args.self.now) c.in-Some.number (held_slots c.args.self.now) c.in-Some.ensures.answer
 
-pub overflow-cast-result : goal.overflow-cast-result
-overflow-cast-result c = omega (arith, number_below c, c.requires.stands.cap)
+pub overflow_cast-result : goal.overflow_cast-result
+overflow_cast-result c = omega (arith, number_below c, c.requires.stands.cap)
 
-pub overflow-add-result : goal.overflow-add-result
-overflow-add-result c = omega (arith, number_below c, c.requires.stands.cap)
+pub overflow_add-result : goal.overflow_add-result
+overflow_add-result c = omega (arith, number_below c, c.requires.stands.cap)
 
 pub returns-in-Some : goal.returns-in-Some
 returns-in-Some c = record {

@@ -18,14 +18,14 @@ returns-then-mine-theirs c =
     let ys = c.text-theirs.result.now in
     as_texts c.args.self.now c.args.other.now xs ys _ c.text-mine.ensures c.text-theirs.ensures (same_lengths fold_byte xs ys c.if-mine-theirs.true)
 
-pub returns-then-fold-byte : goal.returns-then-fold-byte
-returns-then-fold-byte c =
+pub returns-then-fold_byte : goal.returns-then-fold_byte
+returns-then-fold_byte c =
     let xs = c.text-mine.result.now in
     let ys = c.text-theirs.result.now in
     let i = c.loop-i.i in
     let l : i < length ys = omega (arith, c.loop-i-test.true, c.if-mine-theirs.false) in
     as_texts c.args.self.now c.args.other.now xs ys _ c.text-mine.ensures c.text-theirs.ensures
-    (sym c.loop-i.invariant ∙ same_stops fold_byte xs ys i c.loop-i-test.true l (λ e. c.if-fold-byte.true (c.fold_byte.ensures ∙ e ∙ sym c.fold-byte-in-loop-i.ensures)))
+    (sym c.loop-i.invariant ∙ same_stops fold_byte xs ys i c.loop-i-test.true l (λ e. c.if-fold_byte.true (c.fold_byte.ensures ∙ e ∙ sym c.fold_byte-in-loop-i.ensures)))
 
 pub loop-i-preserved : goal.loop-i-preserved
 loop-i-preserved c =
@@ -33,7 +33,7 @@ loop-i-preserved c =
     let ys = c.text-theirs.result.now in
     let i = c.loop-i.i in
     let l : i < length ys = omega (arith, c.loop-i-test.true, c.if-mine-theirs.false) in
-    same_more fold_byte xs ys i c.loop-i-test.true l (sym c.fold_byte.ensures ∙ c.if-fold-byte.false ∙ c.fold-byte-in-loop-i.ensures)
+    same_more fold_byte xs ys i c.loop-i-test.true l (sym c.fold_byte.ensures ∙ c.if-fold_byte.false ∙ c.fold_byte-in-loop-i.ensures)
     ∙ c.loop-i.invariant
 
 pub returns : goal.returns

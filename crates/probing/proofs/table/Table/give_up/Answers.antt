@@ -8,7 +8,7 @@ returns-then-self-gt0 g c =
     let k = g.K.Key in
     let ss = c.args.self.now.slots.now in
     let n = c.args.self.now.count in
-    let post = c.roll-back.ensures in
+    let post = c.roll_back.ensures in
     record {
       sound = post.sound;
       listed = post.listed ∙ ap (λ m. take (m - 1) (take n (stored ss))) (sym (many k.same k.hashed ss n c.requires));

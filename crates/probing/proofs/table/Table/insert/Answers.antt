@@ -7,16 +7,16 @@ use Rattle.probing.proofs.Slots.{sound, many, narrow, gone_round, at_free, at_ta
 use Rattle.probing.proofs.table.Table.insert.Goals as goal
 
 -- all slots taken: refused
-pub returns-in-err-bucket : goal.returns-in-err-bucket
-returns-in-err-bucket g c =
+pub returns-in_err-bucket : goal.returns-in_err-bucket
+returns-in_err-bucket g c =
     let k = g.K.Key in
     let ss = c.args.self.now.slots.now in
     let n = c.args.self.now.count in
     let ks = take n (stored ss) in
-    let round = gone_round k.same k.hashed ss n c.requires c.args.key c.in-err-bucket.ensures.sought in
+    let round = gone_round k.same k.hashed ss n c.requires c.args.key c.in_err-bucket.ensures.sought in
     let len = many k.same k.hashed ss n c.requires in
     let r = at_refused k.same c.args.key (length ss) ks round.0 (omega (arith, round.1)) in
-    record { sound = c.requires; answer = c.from-residual.ensures ∙ sym r.0; listed = sym r.1; older = take_all (length ks) ks (omega arith); beyond = refl; quiet = λ _. refl; width = refl }
+    record { sound = c.requires; answer = c.from_residual.ensures ∙ sym r.0; listed = sym r.1; older = take_all (length ks) ks (omega arith); beyond = refl; quiet = λ _. refl; width = refl }
 
 -- a known key
 pub returns-then-serial-ne0 : goal.returns-then-serial-ne0
@@ -25,8 +25,8 @@ returns-then-serial-ne0 g c =
     let ss = c.args.self.now.slots.now in
     let n = c.args.self.now.count in
     let ks = take n (stored ss) in
-    let place = c.in-ok-bucket.ensures in
-    let known = at_taken k.same k.hashed ss n c.requires c.args.key c.in-ok-bucket.bucket place.sought place.near c.index-self-bucket.result g.met.K.Key.symmetric g.met.K.Key.transitive c.if-serial-ne0.true in
+    let place = c.in_ok-bucket.ensures in
+    let known = at_taken k.same k.hashed ss n c.requires c.args.key c.in_ok-bucket.bucket place.sought place.near c.index-self-bucket.result g.met.K.Key.symmetric g.met.K.Key.transitive c.if-serial-ne0.true in
     let r = at_known k.same c.args.key (length ss) ks _ known in
     record { sound = c.requires; answer = sym r.0; listed = sym r.1; older = take_all (length ks) ks (omega arith); beyond = refl; quiet = λ _. refl; width = refl }
 
@@ -35,19 +35,19 @@ pub put-requires : goal.put-requires
 put-requires g c =
     let k = g.K.Key in
     let self = c.args.self.now in
-    let place = c.in-ok-bucket.ensures in
+    let place = c.in_ok-bucket.ensures in
     record {
-      keyed = room_left k.same k.hashed self.slots.now self.count c.requires c.args.key c.in-ok-bucket.bucket place.sought place.near c.index-self-bucket.result c.if-serial-ne0.false;
+      keyed = room_left k.same k.hashed self.slots.now self.count c.requires c.args.key c.in_ok-bucket.bucket place.sought place.near c.index-self-bucket.result c.if-serial-ne0.false;
       led = place.near;
       narrow = narrow k.same k.hashed self.slots.now self.count c.requires;
     }
 
-pub overflow-add-self : goal.overflow-add-self
-overflow-add-self g c =
+pub overflow_add-self : goal.overflow_add-self
+overflow_add-self g c =
     let k = g.K.Key in
     let self = c.args.self.now in
-    let place = c.in-ok-bucket.ensures in
-    let below : self.count < length self.slots.now = room_left k.same k.hashed self.slots.now self.count c.requires c.args.key c.in-ok-bucket.bucket place.sought place.near c.index-self-bucket.result c.if-serial-ne0.false in
+    let place = c.in_ok-bucket.ensures in
+    let below : self.count < length self.slots.now = room_left k.same k.hashed self.slots.now self.count c.requires c.args.key c.in_ok-bucket.bucket place.sought place.near c.index-self-bucket.result c.if-serial-ne0.false in
     let thin = narrow k.same k.hashed self.slots.now self.count c.requires in
     search rules
 
@@ -58,8 +58,8 @@ returns g c =
     let ss = c.args.self.now.slots.now in
     let n = c.args.self.now.count in
     let ks = take n (stored ss) in
-    let i = c.in-ok-bucket.bucket in
-    let place = c.in-ok-bucket.ensures in
+    let i = c.in_ok-bucket.bucket in
+    let place = c.in_ok-bucket.ensures in
     let pre = sound k.same k.hashed ss n c.requires in
     let len = many k.same k.hashed ss n c.requires in
     let below : n < length ss = room_left k.same k.hashed ss n c.requires x i place.sought place.near c.index-self-bucket.result c.if-serial-ne0.false in

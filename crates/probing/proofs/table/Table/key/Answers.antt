@@ -4,8 +4,8 @@ use Rattle.probing.proofs.Places.{holds_taken, holds_read}
 use Rattle.probing.proofs.Slots.{many, within, nth_at, nth_past, key_read}
 use Rattle.probing.proofs.table.Table.key.Goals as goal
 
-pub offset-bounds-slots-number : goal.offset-bounds-slots-number
-offset-bounds-slots-number g c = omega (arith, within g.K.Key.same g.K.Key.hashed c.args.self.now.slots.now c.args.self.now.count c.requires)
+pub offset_bounds-slots-number : goal.offset_bounds-slots-number
+offset_bounds-slots-number g c = omega (arith, within g.K.Key.same g.K.Key.hashed c.args.self.now.slots.now c.args.self.now.count c.requires)
 
 pub bounds-slots-number : goal.bounds-slots-number
 bounds-slots-number g c = omega (arith, within g.K.Key.same g.K.Key.hashed c.args.self.now.slots.now c.args.self.now.count c.requires)

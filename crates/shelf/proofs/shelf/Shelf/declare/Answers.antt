@@ -7,11 +7,11 @@ use Rattle.shelf.proofs.Replies.{same_shapes}
 use Rattle.shelf.proofs.Spellings.{find_good, number_agrees, fits, refused, inserted, took, gone, declare_bad, declare_known, declare_new, declare_full}
 use Rattle.shelf.proofs.shelf.Shelf.declare.Goals as goal
 
-pub returns-then-not-is-good : goal.returns-then-not-is-good
-returns-then-not-is-good c = record {
+pub returns-then-not-is_good : goal.returns-then-not-is_good
+returns-then-not-is_good c = record {
   lent = record { slots = refl; name_slots = refl };
   moves = λ K Q cat u.
-      let d = declare_bad u c.args.name.now (sym c.if-not-is-good.ensures) in
+      let d = declare_bad u c.args.name.now (sym c.if-not-is_good.ensures) in
       (d.0, record { stands = at_catalogue u d.1; stay = λ p h k. refl });
 }
 
@@ -20,7 +20,7 @@ returns-in-Some c = record {
   lent = record { slots = refl; name_slots = refl };
   moves = λ K Q cat u.
       let n = c.args.name.now in
-      let g = sym c.if-not-is-good.ensures in
+      let g = sym c.if-not-is_good.ensures in
       let d = declare_known u n c.in-Some.fact g (sym (find_good cat n g) ∙ sym (c.in-Some.ensures K Q cat u)) in
       (d.0, record { stands = at_catalogue u d.1; stay = λ p h k. refl });
 }
@@ -28,24 +28,24 @@ returns-in-Some c = record {
 pub insert-requires : goal.insert-requires
 insert-requires c = whole_names c.args.self.now
 
-pub invariant-of-self : goal.invariant-of-self
-invariant-of-self c =
+pub invariant_of-self : goal.invariant_of-self
+invariant_of-self c =
     let n = c.args.name.now in
-    let g = sym c.if-not-is-good.ensures in (
+    let g = sym c.if-not-is_good.ensures in (
       ∥∥₁_map c.args.self.now.stands (λ k.
           let u = k.1.1.1 in
-          let o = sym (number_agrees u n) ∙ sym (find_good k.1.1.0 n g) ∙ sym (c.in-default.ensures k.0 k.1.0 k.1.1.0 u) in
+          let o = sym (number_agrees u n) ∙ sym (find_good k.1.1.0 n g) ∙ sym (c.in_default.ensures k.0 k.1.0 k.1.1.0 u) in
           (k.0, (k.1.0, inserted u n c.insert.new.self o c.insert.ensures.sound c.insert.ensures.width c.insert.ensures.listed))),
       tt,
     )
 
-pub overflow-cast-result : goal.overflow-cast-result
-overflow-cast-result c =
+pub overflow_cast-result : goal.overflow_cast-result
+overflow_cast-result c =
     let n = c.args.name.now in
-    let g = sym c.if-not-is-good.ensures in
+    let g = sym c.if-not-is_good.ensures in
     let few : c.in-Some-insert.number < 32 = ∥∥₁_elim c.args.self.now.stands le_prop (λ k.
     let u = k.1.1.1 in
-    let o = sym (number_agrees u n) ∙ sym (find_good k.1.1.0 n g) ∙ sym (c.in-default.ensures k.0 k.1.0 k.1.1.0 u) in
+    let o = sym (number_agrees u n) ∙ sym (find_good k.1.1.0 n g) ∙ sym (c.in_default.ensures k.0 k.1.0 k.1.1.0 u) in
     let t = took u n c.in-Some-insert.number o c.in-Some-insert.ensures.answer in
     omega (arith, t.0, t.1, u.naming.few)) in
     search rules
@@ -55,8 +55,8 @@ returns-in-Some-insert c = record {
   lent = record { slots = refl; name_slots = c.insert.ensures.width };
   moves = λ K Q cat u.
       let n = c.args.name.now in
-      let g = sym c.if-not-is-good.ensures in
-      let o = sym (number_agrees u n) ∙ sym (find_good cat n g) ∙ sym (c.in-default.ensures K Q cat u) in
+      let g = sym c.if-not-is_good.ensures in
+      let o = sym (number_agrees u n) ∙ sym (find_good cat n g) ∙ sym (c.in_default.ensures K Q cat u) in
       let t = took u n c.in-Some-insert.number o c.in-Some-insert.ensures.answer in
       let d = declare_new u n g (number_agrees u n ∙ o) t.0 in (
         ap (λ k. Ok k) t.1 ∙ d.0,
@@ -72,8 +72,8 @@ returns-in-None c = record {
   lent = record { slots = refl; name_slots = c.insert.ensures.width };
   moves = λ K Q cat u.
       let n = c.args.name.now in
-      let g = sym c.if-not-is-good.ensures in
-      let o = sym (number_agrees u n) ∙ sym (find_good cat n g) ∙ sym (c.in-default.ensures K Q cat u) in
+      let g = sym c.if-not-is_good.ensures in
+      let o = sym (number_agrees u n) ∙ sym (find_good cat n g) ∙ sym (c.in_default.ensures K Q cat u) in
       let full = gone u n o c.in-None.ensures.answer in
       let d = declare_full u n g (number_agrees u n ∙ o) full in (
         d.0,

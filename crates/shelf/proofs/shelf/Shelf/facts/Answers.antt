@@ -5,8 +5,8 @@ use Rattle.shelf.proofs.shelf.Shelf.facts.Goals as goal
 pub count-requires : goal.count-requires
 count-requires c = whole_names c.args.self.now
 
-pub overflow-cast-result : goal.overflow-cast-result
-overflow-cast-result c = let few : c.count.result ≤ 32 = omega (arith, few_names c.args.self.now, c.count.ensures.within) in search rules
+pub overflow_cast-result : goal.overflow_cast-result
+overflow_cast-result c = let few : c.count.result ≤ 32 = omega (arith, few_names c.args.self.now, c.count.ensures.within) in search rules
 
 pub returns : goal.returns
 returns c = record { few = omega (arith, few_names c.args.self.now, c.count.ensures.within); number = c.count.ensures.number }

@@ -18,8 +18,8 @@ returns-then-not-owns c = record {
 pub step-requires : goal.step-requires
 step-requires c = (lit< tt, (c.facts-facts.ensures.few, ready_store c.args.self.now))
 
-pub invariant-of-self : goal.invariant-of-self
-invariant-of-self c = (
+pub invariant_of-self : goal.invariant_of-self
+invariant_of-self c = (
   ∥∥₁_map c.args.self.now.stands (λ k.
       let K = k.0 in
       let u = k.1.1.1 in

@@ -31,8 +31,8 @@ filing-self-requires c =
     let u = k.1.1.1 in
     (u.drafting (owned u c.args.draft.shelf c.args.draft.count (sym (c.if-not-owns.ensures k.0 k.1.0 k.1.1.0 u)))).room)
 
-pub invariant-of-self : goal.invariant-of-self
-invariant-of-self c = (
+pub invariant_of-self : goal.invariant_of-self
+invariant_of-self c = (
   ∥∥₁_map c.args.self.now.stands (λ k.
       let u = k.1.1.1 in
       let e = owned u c.args.draft.shelf c.args.draft.count (sym (c.if-not-owns.ensures k.0 k.1.0 k.1.1.0 u)) in
@@ -40,8 +40,8 @@ invariant-of-self c = (
   tt,
 )
 
-pub overflow-cast-result : goal.overflow-cast-result
-overflow-cast-result c = let few = few_policies c.args.self.now in search rules
+pub overflow_cast-result : goal.overflow_cast-result
+overflow_cast-result c = let few = few_policies c.args.self.now in search rules
 
 pub returns : goal.returns
 returns c = record {

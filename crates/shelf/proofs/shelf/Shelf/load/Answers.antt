@@ -8,11 +8,11 @@ use Rattle.shelf.proofs.Replies.{may_open, load_long, load_refused, load_read, s
 use Rattle.shelf.proofs.Upholding.{facts_are, held_is, in_state, at_catalogue}
 use Rattle.shelf.proofs.shelf.Shelf.load.Goals as goal
 
-pub returns-then-tape-gt-LONGEST-TAPE : goal.returns-then-tape-gt-LONGEST-TAPE
-returns-then-tape-gt-LONGEST-TAPE c = record {
+pub returns-then-tape-gt-LONGEST_TAPE : goal.returns-then-tape-gt-LONGEST_TAPE
+returns-then-tape-gt-LONGEST_TAPE c = record {
   lent = record { slots = refl; name_slots = refl };
   moves = λ K Q cat u.
-      let a = load_long u c.args.tape.now c.if-tape-gt-LONGEST-TAPE.true in
+      let a = load_long u c.args.tape.now c.if-tape-gt-LONGEST_TAPE.true in
       (sym a.0, record { stands = at_catalogue u a.1; stay = λ p h k. refl });
 }
 
@@ -20,70 +20,70 @@ pub returns-in-Err : goal.returns-in-Err
 returns-in-Err c = record {
   lent = record { slots = refl; name_slots = refl };
   moves = λ K Q cat u.
-      let a = load_refused u c.args.tape.now c.in-Err.refusal c.if-tape-gt-LONGEST-TAPE.false (sym (c.in-Err.ensures K Q cat u)) in
+      let a = load_refused u c.args.tape.now c.in-Err.refusal c.if-tape-gt-LONGEST_TAPE.false (sym (c.in-Err.ensures K Q cat u)) in
       (sym a.0, record { stands = at_catalogue u a.1; stay = λ p h k. refl });
 }
 
 pub held-before-requires : goal.held-before-requires
 held-before-requires c = ready_store c.args.self.now
 
-pub read-all-requires : goal.read-all-requires
-read-all-requires c = (c.facts-facts.ensures.few, ready_store c.args.self.now)
+pub read_all-requires : goal.read_all-requires
+read_all-requires c = (c.facts-facts.ensures.few, ready_store c.args.self.now)
 
-pub invariant-of-self : goal.invariant-of-self
-invariant-of-self c = (
+pub invariant_of-self : goal.invariant_of-self
+invariant_of-self c = (
   ∥∥₁_map c.args.self.now.stands (λ k.
       let u = k.1.1.1 in
-      let m = may_open u (sym (c.in-default.ensures k.0 k.1.0 k.1.1.0 u)) in
-      (k.0, (k.1.0, (k.1.1.0, undone u c.facts-facts.result (c.facts-facts.ensures.number ∙ sym (facts_are u)) c.roll-back.new.self m.0 c.roll-back.ensures.ready (c.roll-back.ensures.back.restored c.args.self.now.store c.read-all.ensures.later c.held-before.ensures.number))))),
+      let m = may_open u (sym (c.in_default.ensures k.0 k.1.0 k.1.1.0 u)) in
+      (k.0, (k.1.0, (k.1.1.0, undone u c.facts-facts.result (c.facts-facts.ensures.number ∙ sym (facts_are u)) c.roll_back.new.self m.0 c.roll_back.ensures.ready (c.roll_back.ensures.back.restored c.args.self.now.store c.read_all.ensures.later c.held-before.ensures.number))))),
   tt,
 )
 
-pub returns-in-Err-read-all : goal.returns-in-Err-read-all
-returns-in-Err-read-all c =
-    let back = c.roll-back.ensures.back.restored c.args.self.now.store c.read-all.ensures.later c.held-before.ensures.number in
+pub returns-in-Err-read_all : goal.returns-in-Err-read_all
+returns-in-Err-read_all c =
+    let back = c.roll_back.ensures.back.restored c.args.self.now.store c.read_all.ensures.later c.held-before.ensures.number in
     record {
       lent = record { slots = back.slots; name_slots = refl };
       moves = λ K Q cat u.
-          let t = sym (c.in-default.ensures K Q cat u) in
+          let t = sym (c.in_default.ensures K Q cat u) in
           let m = may_open u t in
           let n = c.facts-facts.ensures.number ∙ sym (facts_are u) in
-          let e = c.in-Err-read-all.ensures.loads K (all_results K cat) u.algebra.closed u.algebra.tables_are (storing_all u c.facts-facts.result n) c.empty-stack.ensures.bare c.empty-stack.ensures.unended in
-          let a = load_read u c.args.tape.now (Err c.in-Err-read-all.refused) c.if-tape-gt-LONGEST-TAPE.false t (row_is u c.facts-facts.result n c.args.tape.now _ e) in
-          (sym a.0, record { stands = at_catalogue (undone u c.facts-facts.result n c.roll-back.new.self m.0 c.roll-back.ensures.ready back) a.1; stay = λ p h k. same_shapes _ _ p refl });
+          let e = c.in-Err-read_all.ensures.loads K (all_results K cat) u.algebra.closed u.algebra.tables_are (storing_all u c.facts-facts.result n) c.empty-stack.ensures.bare c.empty-stack.ensures.unended in
+          let a = load_read u c.args.tape.now (Err c.in-Err-read_all.refused) c.if-tape-gt-LONGEST_TAPE.false t (row_is u c.facts-facts.result n c.args.tape.now _ e) in
+          (sym a.0, record { stands = at_catalogue (undone u c.facts-facts.result n c.roll_back.new.self m.0 c.roll_back.ensures.ready back) a.1; stay = λ p h k. same_shapes _ _ p refl });
     }
 
 pub filing-self-requires : goal.filing-self-requires
 filing-self-requires c =
     ∥∥₁_elim c.args.self.now.stands le_prop (λ k.
     let u = k.1.1.1 in
-    (may_open u (sym (c.in-default.ensures k.0 k.1.0 k.1.1.0 u))).1)
+    (may_open u (sym (c.in_default.ensures k.0 k.1.0 k.1.1.0 u))).1)
 
-pub invariant-of-self-2 : goal.invariant-of-self-2
-invariant-of-self-2 c = (
+pub invariant_of-self-2 : goal.invariant_of-self-2
+invariant_of-self-2 c = (
   ∥∥₁_map c.args.self.now.stands (λ k.
       let K = k.0 in
       let u = k.1.1.1 in
-      let m = may_open u (sym (c.in-default.ensures K k.1.0 k.1.1.0 u)) in
+      let m = may_open u (sym (c.in_default.ensures K k.1.0 k.1.1.0 u)) in
       let n = c.facts-facts.ensures.number ∙ sym (facts_are u) in
-      let l = c.in-default-read-all.ensures.loads K (all_results K k.1.1.0) u.algebra.closed u.algebra.tables_are (storing_all u c.facts-facts.result n) c.empty-stack.ensures.bare c.empty-stack.ensures.unended in
-      (K, (k.1.0, (_, in_state (filed_row u c.facts-facts.result n c.read-all.new.store c.read-all.new.stack l.0 c.top.result c.read-all.ensures.later m.0 m.1 l.1.1 c.top.ensures) c.filing-self.ensures)))),
+      let l = c.in_default-read_all.ensures.loads K (all_results K k.1.1.0) u.algebra.closed u.algebra.tables_are (storing_all u c.facts-facts.result n) c.empty-stack.ensures.bare c.empty-stack.ensures.unended in
+      (K, (k.1.0, (_, in_state (filed_row u c.facts-facts.result n c.read_all.new.store c.read_all.new.stack l.0 c.top.result c.read_all.ensures.later m.0 m.1 l.1.1 c.top.ensures) c.filing-self.ensures)))),
   tt,
 )
 
-pub overflow-cast-result : goal.overflow-cast-result
-overflow-cast-result c = let few = few_policies c.args.self.now in search rules
+pub overflow_cast-result : goal.overflow_cast-result
+overflow_cast-result c = let few = few_policies c.args.self.now in search rules
 
 pub returns : goal.returns
 returns c = record {
-  lent = record { slots = c.read-all.ensures.later.slots; name_slots = refl };
+  lent = record { slots = c.read_all.ensures.later.slots; name_slots = refl };
   moves = λ K Q cat u.
-      let t = sym (c.in-default.ensures K Q cat u) in
+      let t = sym (c.in_default.ensures K Q cat u) in
       let m = may_open u t in
       let n = c.facts-facts.ensures.number ∙ sym (facts_are u) in
-      let l = c.in-default-read-all.ensures.loads K (all_results K cat) u.algebra.closed u.algebra.tables_are (storing_all u c.facts-facts.result n) c.empty-stack.ensures.bare c.empty-stack.ensures.unended in
-      let w = in_state (filed_row u c.facts-facts.result n c.read-all.new.store c.read-all.new.stack l.0 c.top.result c.read-all.ensures.later m.0 m.1 l.1.1 c.top.ensures) c.filing-self.ensures in
-      let a = load_read u c.args.tape.now (Ok l.0) c.if-tape-gt-LONGEST-TAPE.false t (row_is u c.facts-facts.result n c.args.tape.now _ l.1.0) in (
+      let l = c.in_default-read_all.ensures.loads K (all_results K cat) u.algebra.closed u.algebra.tables_are (storing_all u c.facts-facts.result n) c.empty-stack.ensures.bare c.empty-stack.ensures.unended in
+      let w = in_state (filed_row u c.facts-facts.result n c.read_all.new.store c.read_all.new.stack l.0 c.top.result c.read_all.ensures.later m.0 m.1 l.1.1 c.top.ensures) c.filing-self.ensures in
+      let a = load_read u c.args.tape.now (Ok l.0) c.if-tape-gt-LONGEST_TAPE.false t (row_is u c.facts-facts.result n c.args.tape.now _ l.1.0) in (
         (λ i. Ok (sym u.filing.are i, (c.held.ensures.number ∙ held_is w) i)) ∙ sym a.0,
         record {
           stands = at_catalogue w a.1;

@@ -13,8 +13,8 @@ use Rattle.shelf.proofs.shelf.Shelf.make.Goals as goal
 part : {A : Type 0} (xs : List A) (k m : ℕ) → k ≡ min (length xs) m → length (take (k - 0) xs) ≡ min (length xs) m
 part xs k m e = omega (arith, length-take (k - 0) xs)
 
-pub invariant-of-result : goal.invariant-of-result
-invariant-of-result g c =
+pub invariant_of-result : goal.invariant_of-result
+invariant_of-result g c =
     let M = g.A.EffectAlgebra.effects in
     let K = codes M in
     let Q = question_codes M g.A.EffectAlgebra.questions in (
@@ -24,8 +24,8 @@ invariant-of-result g c =
           Q,
           (
             at_making c.args.number (length c.args.nodes.now) (length c.args.names.now),
-            in_state (made K Q c.args.number (length c.args.nodes.now) (length c.args.names.now) c.new.result c.new-2.result c.effect-tables.result c.question-tables.result c.empty.result
-                (record { closed = closed M g.met.A.EffectAlgebra.lawful; tables_are = c.effect-tables.ensures; questions_are = c.question-tables.ensures })
+            in_state (made K Q c.args.number (length c.args.nodes.now) (length c.args.names.now) c.new.result c.new-2.result c.effect_tables.result c.question_tables.result c.empty.result
+                (record { closed = closed M g.met.A.EffectAlgebra.lawful; tables_are = c.effect_tables.ensures; questions_are = c.question_tables.ensures })
                 c.new.ensures.sound c.new.ensures.listed (c.new.ensures.width ∙ part c.args.names.now _ 32 c.min-facts.ensures) (omega arith) c.new-2.ensures.ready c.new-2.ensures.bare (c.new-2.ensures.width ∙ part c.args.nodes.now _ 65520 c.min-slots.ensures) c.new-2.ensures.recorded) c.new-3.ensures,
           ),
         ),
@@ -39,8 +39,8 @@ returns g c =
     let K = codes M in
     let Q = question_codes M g.A.EffectAlgebra.questions in
     record {
-      stands = in_state (made K Q c.args.number (length c.args.nodes.now) (length c.args.names.now) c.new.result c.new-2.result c.effect-tables.result c.question-tables.result c.empty.result
-          (record { closed = closed M g.met.A.EffectAlgebra.lawful; tables_are = c.effect-tables.ensures; questions_are = c.question-tables.ensures })
+      stands = in_state (made K Q c.args.number (length c.args.nodes.now) (length c.args.names.now) c.new.result c.new-2.result c.effect_tables.result c.question_tables.result c.empty.result
+          (record { closed = closed M g.met.A.EffectAlgebra.lawful; tables_are = c.effect_tables.ensures; questions_are = c.question_tables.ensures })
           c.new.ensures.sound c.new.ensures.listed (c.new.ensures.width ∙ part c.args.names.now _ 32 c.min-facts.ensures) (omega arith) c.new-2.ensures.ready c.new-2.ensures.bare (c.new-2.ensures.width ∙ part c.args.nodes.now _ 65520 c.min-slots.ensures) c.new-2.ensures.recorded) c.new-3.ensures;
       nodes = c.new-2.ensures.blank ∙ ap (λ n. replicate n (free {K = Node} (record { fact = 0; low = 0; high = 0 }))) (part c.args.nodes.now _ 65520 c.min-slots.ensures);
       names = c.new.ensures.blank ∙ ap (λ n. replicate n (free {K = Name} (record { len = 0; bytes = replicate 16 0 }))) (part c.args.names.now _ 32 c.min-facts.ensures);

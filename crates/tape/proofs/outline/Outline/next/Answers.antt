@@ -8,18 +8,18 @@ pub returns-then-self : goal.returns-then-self
 unfolding checked
 returns-then-self c = search rules
 
-pub returns-in-err-command : goal.returns-in-err-command
+pub returns-in_err-command : goal.returns-in_err-command
 unfolding checked
-returns-in-err-command c = search rules
+returns-in_err-command c = search rules
 
-pub returns-in-err-check-operand : goal.returns-in-err-check-operand
-returns-in-err-check-operand c = let p = err_from_is_err_and c.from-residual-in-err-check-operand.result c.from-residual-in-err-check-operand.ensures.1 in rw (p.1, p.2) (record { said = sym (operand_refused _ _ _ _ _ _ _ c.if-self.false (sym c.in-ok-command.ensures.said) (sym c.in-err-check-operand.ensures.said)); safe = tt })
+pub returns-in_err-check_operand : goal.returns-in_err-check_operand
+returns-in_err-check_operand c = let p = err_from_is_err_and c.from_residual-in_err-check_operand.result c.from_residual-in_err-check_operand.ensures.1 in rw (p.1, p.2) (record { said = sym (operand_refused _ _ _ _ _ _ _ c.if-self.false (sym c.in_ok-command.ensures.said) (sym c.in_err-check_operand.ensures.said)); safe = tt })
 
-pub returns-in-err-check-stack : goal.returns-in-err-check-stack
-returns-in-err-check-stack c = let p = err_from_is_err_and c.from-residual-in-err-check-stack.result c.from-residual-in-err-check-stack.ensures.1 in rw (p.1, p.2) (record { said = sym (stack_refused _ _ _ _ _ _ _ c.if-self.false (sym c.in-ok-command.ensures.said) (sym c.in-ok-check-operand.ensures.said) (sym c.in-err-check-stack.ensures.said)); safe = tt })
+pub returns-in_err-check_stack : goal.returns-in_err-check_stack
+returns-in_err-check_stack c = let p = err_from_is_err_and c.from_residual-in_err-check_stack.result c.from_residual-in_err-check_stack.ensures.1 in rw (p.1, p.2) (record { said = sym (stack_refused _ _ _ _ _ _ _ c.if-self.false (sym c.in_ok-command.ensures.said) (sym c.in_ok-check_operand.ensures.said) (sym c.in_err-check_stack.ensures.said)); safe = tt })
 
 pub returns : goal.returns
 returns c = record {
-  said = sym (accepted _ _ _ _ _ _ c.if-self.false (sym c.in-ok-command.ensures.said) (sym c.in-ok-check-operand.ensures.said) (sym c.in-ok-check-stack.ensures.said));
-  safe = (c.in-ok-check-operand.ensures.safe, c.in-ok-check-stack.ensures.safe, c.in-ok-command.ensures.some.0, c.in-ok-command.ensures.some.1);
+  said = sym (accepted _ _ _ _ _ _ c.if-self.false (sym c.in_ok-command.ensures.said) (sym c.in_ok-check_operand.ensures.said) (sym c.in_ok-check_stack.ensures.said));
+  safe = (c.in_ok-check_operand.ensures.safe, c.in_ok-check_stack.ensures.safe, c.in_ok-command.ensures.some.0, c.in_ok-command.ensures.some.1);
 }
