@@ -28,16 +28,16 @@ returns-in-Load c =
     subst (λ (o : Option (List ℕ)). IfOk c.push_load.result (λ read. Adds o (vec_items c.args.job.now) read (vec_items c.push_load.new.job)))
     (sym (by_verb c.args.words.now _ _ c.if-words-lt1.false (ap Some (sym c.in-Load.is) ∙ c.in-Some.ensures) ∙ as_load c.args.words.now)) c.push_load.ensures
 
-pub returns-in_ok-extend_from_slice : goal.returns-in_ok-extend_from_slice
-returns-in_ok-extend_from_slice c =
-    adds_some _ _ _ _ (by_verb c.args.words.now _ _ c.if-words-lt1.false (ap Some (sym c.in-Compare.is) ∙ c.in-Some.ensures) ∙ as_compare c.args.words.now _ _ _ c.if-words-ne4.false ∙ sym c.in-Some-compare.ensures) c.in_ok-extend_from_slice.ensures.items
+pub returns-in_ok-extend_from_slice-in-Some-compare : goal.returns-in_ok-extend_from_slice-in-Some-compare
+returns-in_ok-extend_from_slice-in-Some-compare c =
+    adds_some _ _ _ _ (by_verb c.args.words.now _ _ c.if-words-lt1.false (ap Some (sym c.in-Compare.is) ∙ c.in-Some.ensures) ∙ as_compare c.args.words.now _ _ _ c.if-words-ne4.false ∙ sym c.in-Some-compare.ensures) c.in_ok-extend_from_slice-in-Some-compare.ensures.items
 
 pub returns-in-None : goal.returns-in-None
 returns-in-None c = adds_none _ _ _ (by_verb c.args.words.now _ _ c.if-words-lt1.false (ap Some (sym c.in-Compare.is) ∙ c.in-Some.ensures) ∙ as_compare c.args.words.now _ _ _ c.if-words-ne4.false ∙ sym c.in-None.ensures)
 
-pub returns-in_ok-extend_from_slice-2 : goal.returns-in_ok-extend_from_slice-2
-returns-in_ok-extend_from_slice-2 c =
-    adds_some _ _ _ _ (by_verb c.args.words.now _ _ c.if-words-lt1.false (ap Some (sym c.in-Ask.is) ∙ c.in-Some.ensures) ∙ as_ask c.args.words.now _ _ c.if-words-ne3.false ∙ sym c.in-Some-ask.ensures) c.in_ok-extend_from_slice-2.ensures.items
+pub returns-in_ok-extend_from_slice-in-Some-ask : goal.returns-in_ok-extend_from_slice-in-Some-ask
+returns-in_ok-extend_from_slice-in-Some-ask c =
+    adds_some _ _ _ _ (by_verb c.args.words.now _ _ c.if-words-lt1.false (ap Some (sym c.in-Ask.is) ∙ c.in-Some.ensures) ∙ as_ask c.args.words.now _ _ c.if-words-ne3.false ∙ sym c.in-Some-ask.ensures) c.in_ok-extend_from_slice-in-Some-ask.ensures.items
 
 pub returns-in-None-ask : goal.returns-in-None-ask
 returns-in-None-ask c = adds_none _ _ _ (by_verb c.args.words.now _ _ c.if-words-lt1.false (ap Some (sym c.in-Ask.is) ∙ c.in-Some.ensures) ∙ as_ask c.args.words.now _ _ c.if-words-ne3.false ∙ sym c.in-None-ask.ensures)

@@ -10,7 +10,7 @@ loop-word-init c = read_none c.args.words.now _
 
 pub loop-word-preserved : goal.loop-word-preserved
 loop-word-preserved c =
-    read_more c.args.words.now c.loop-word.word-index c.in-Some.byte _ _ _ _ c.loop-word-test.true c.in-Some.ensures c.in_ok-push.ensures.items c.loop-word.invariant
+    read_more c.args.words.now c.loop-word.word-index c.in-Some.byte _ _ _ _ c.loop-word-test.true c.in-Some.ensures c.in_ok-push-in-Some.ensures.items c.loop-word.invariant
 
 pub returns-in-None : goal.returns-in-None
 returns-in-None c = unread c.args.words.now c.loop-word.word-index _ _ _ _ _ c.loop-word-test.true c.in-None.ensures c.loop-word.invariant

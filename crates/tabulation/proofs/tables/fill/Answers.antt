@@ -17,7 +17,7 @@ loop-mask-preserved g c =
     let ms = c.args.masks.now in
     let k = c.loop-mask.mask-index in
     let lt = c.loop-mask-test.true in
-    let items = c.in_ok-push.ensures.items in
+    let items = c.in_ok-push-in-Ok.ensures.items in
     let told = c.in-Ok.ensures (codes M) (closed M g.met.A.EffectAlgebra.lawful) c.effect_tables-tables.ensures in (
       masks_more (vec_items c.loop-mask.rows) _ _ ms k lt items c.loop-mask.invariant.0 refl,
       answers_more (read_answer (codes M) i.facts i.tape.now) (vec_items c.loop-mask.rows) _ _ ms k lt items c.loop-mask.invariant.1 told,

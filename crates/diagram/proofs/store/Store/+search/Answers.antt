@@ -27,7 +27,7 @@ pub returns-in-Some : goal.returns-in-Some
 returns-in-Some t c = record {
   whole = c.requires.whole;
   searched = c.requires.searched;
-  finds = seen_clear 32 c.args.question.now (nodes c.args.self.now) (record { first = c.args.first; second = c.args.second }) (keys c.args.seen.now) c.in-Some.-number c.in-Some.ensures c.requires.searched;
+  finds = seen_clear 32 c.args.question.now (nodes c.args.self.now) (record { first = c.args.first; second = c.args.second }) (keys c.args.seen.now) c.in-Some._number c.in-Some.ensures c.requires.searched;
 }
 
 pub search-requires : goal.search-requires
