@@ -19,13 +19,12 @@ pub roll_back-requires : goal.roll_back-requires
 roll_back-requires c = ready_store c.args.self.now
 
 pub invariant_of-self : goal.invariant_of-self
-invariant_of-self c = (
-  ∥∥₁_map c.args.self.now.stands (λ k.
+invariant_of-self c = record {
+  stands = ∥∥₁_map c.args.self.now.stands (λ k.
       let u = k.1.1.1 in
       let e = owned u c.args.draft.shelf c.args.draft.count (sym (c.if-not-owns.ensures k.0 k.1.0 k.1.1.0 u)) in
-      (k.0, (k.1.0, (_, in_state (abandoned u c.roll_back.new.self c.roll_back.ensures.ready e c.roll_back.ensures.back) c.closed-self.ensures)))),
-  tt,
-)
+      (k.0, (k.1.0, (_, in_state (abandoned u c.roll_back.new.self c.roll_back.ensures.ready e c.roll_back.ensures.back) c.closed-self.ensures))));
+}
 
 pub returns : goal.returns
 returns c = record {

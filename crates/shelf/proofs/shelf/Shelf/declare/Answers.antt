@@ -31,13 +31,12 @@ insert-requires c = whole_names c.args.self.now
 pub invariant_of-self : goal.invariant_of-self
 invariant_of-self c =
     let n = c.args.name.now in
-    let g = sym c.if-not-is_good.ensures in (
-      ∥∥₁_map c.args.self.now.stands (λ k.
+    let g = sym c.if-not-is_good.ensures in record {
+      stands = ∥∥₁_map c.args.self.now.stands (λ k.
           let u = k.1.1.1 in
           let o = sym (number_agrees u n) ∙ sym (find_good k.1.1.0 n g) ∙ sym (c.in_default.ensures k.0 k.1.0 k.1.1.0 u) in
-          (k.0, (k.1.0, inserted u n c.insert.new.self o c.insert.ensures.sound c.insert.ensures.width c.insert.ensures.listed))),
-      tt,
-    )
+          (k.0, (k.1.0, inserted u n c.insert.new.self o c.insert.ensures.sound c.insert.ensures.width c.insert.ensures.listed)));
+    }
 
 pub overflow_cast-result : goal.overflow_cast-result
 overflow_cast-result c =

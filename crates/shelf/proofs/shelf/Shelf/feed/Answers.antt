@@ -19,14 +19,13 @@ pub step-requires : goal.step-requires
 step-requires c = (lit< tt, (c.facts-facts.ensures.few, ready_store c.args.self.now))
 
 pub invariant_of-self : goal.invariant_of-self
-invariant_of-self c = (
-  ∥∥₁_map c.args.self.now.stands (λ k.
+invariant_of-self c = record {
+  stands = ∥∥₁_map c.args.self.now.stands (λ k.
       let K = k.0 in
       let u = k.1.1.1 in
       let e = owned u c.args.draft.shelf c.args.draft.count (sym (c.if-not-owns.ensures k.0 k.1.0 k.1.1.0 u)) in
-      (K, (k.1.0, (_, step_upholds u e c.facts-facts.result (c.facts-facts.ensures.number ∙ sym (facts_are u)) c.facts-facts.ensures.few c.args.bytes.now c.step.new.on c.step.new.stack c.step.ensures.ready c.step.ensures.kept c.step.result (c.step.ensures.stands K _ u.algebra.closed u.algebra.tables_are (u.drafting e).holds))))),
-  tt,
-)
+      (K, (k.1.0, (_, step_upholds u e c.facts-facts.result (c.facts-facts.ensures.number ∙ sym (facts_are u)) c.facts-facts.ensures.few c.args.bytes.now c.step.new.on c.step.new.stack c.step.ensures.ready c.step.ensures.kept c.step.result (c.step.ensures.stands K _ u.algebra.closed u.algebra.tables_are (u.drafting e).holds)))));
+}
 
 pub returns-in-Ok : goal.returns-in-Ok
 returns-in-Ok c = record {

@@ -32,13 +32,12 @@ filing-self-requires c =
     (u.drafting (owned u c.args.draft.shelf c.args.draft.count (sym (c.if-not-owns.ensures k.0 k.1.0 k.1.1.0 u)))).room)
 
 pub invariant_of-self : goal.invariant_of-self
-invariant_of-self c = (
-  ∥∥₁_map c.args.self.now.stands (λ k.
+invariant_of-self c = record {
+  stands = ∥∥₁_map c.args.self.now.stands (λ k.
       let u = k.1.1.1 in
       let e = owned u c.args.draft.shelf c.args.draft.count (sym (c.if-not-owns.ensures k.0 k.1.0 k.1.1.0 u)) in
-      (k.0, (k.1.0, (_, in_state (filed u c.top.result e c.if-not-self.false c.top.ensures) c.filing-self.ensures)))),
-  tt,
-)
+      (k.0, (k.1.0, (_, in_state (filed u c.top.result e c.if-not-self.false c.top.ensures) c.filing-self.ensures))));
+}
 
 pub overflow_cast-result : goal.overflow_cast-result
 overflow_cast-result c = let few = few_policies c.args.self.now in search rules

@@ -31,13 +31,12 @@ pub read_all-requires : goal.read_all-requires
 read_all-requires c = (c.facts-facts.ensures.few, ready_store c.args.self.now)
 
 pub invariant_of-self : goal.invariant_of-self
-invariant_of-self c = (
-  ∥∥₁_map c.args.self.now.stands (λ k.
+invariant_of-self c = record {
+  stands = ∥∥₁_map c.args.self.now.stands (λ k.
       let u = k.1.1.1 in
       let m = may_open u (sym (c.in_default.ensures k.0 k.1.0 k.1.1.0 u)) in
-      (k.0, (k.1.0, (k.1.1.0, undone u c.facts-facts.result (c.facts-facts.ensures.number ∙ sym (facts_are u)) c.roll_back.new.self m.0 c.roll_back.ensures.ready (c.roll_back.ensures.back.restored c.args.self.now.store c.read_all.ensures.later c.held-before.ensures.number))))),
-  tt,
-)
+      (k.0, (k.1.0, (k.1.1.0, undone u c.facts-facts.result (c.facts-facts.ensures.number ∙ sym (facts_are u)) c.roll_back.new.self m.0 c.roll_back.ensures.ready (c.roll_back.ensures.back.restored c.args.self.now.store c.read_all.ensures.later c.held-before.ensures.number)))));
+}
 
 pub returns-in-Err-read_all : goal.returns-in-Err-read_all
 returns-in-Err-read_all c =
@@ -60,16 +59,15 @@ filing-self-requires c =
     (may_open u (sym (c.in_default.ensures k.0 k.1.0 k.1.1.0 u))).1)
 
 pub invariant_of-self-2 : goal.invariant_of-self-2
-invariant_of-self-2 c = (
-  ∥∥₁_map c.args.self.now.stands (λ k.
+invariant_of-self-2 c = record {
+  stands = ∥∥₁_map c.args.self.now.stands (λ k.
       let K = k.0 in
       let u = k.1.1.1 in
       let m = may_open u (sym (c.in_default.ensures K k.1.0 k.1.1.0 u)) in
       let n = c.facts-facts.ensures.number ∙ sym (facts_are u) in
       let l = c.in_default-read_all.ensures.loads K (all_results K k.1.1.0) u.algebra.closed u.algebra.tables_are (storing_all u c.facts-facts.result n) c.empty-stack.ensures.bare c.empty-stack.ensures.unended in
-      (K, (k.1.0, (_, in_state (filed_row u c.facts-facts.result n c.read_all.new.store c.read_all.new.stack l.0 c.top.result c.read_all.ensures.later m.0 m.1 l.1.1 c.top.ensures) c.filing-self.ensures)))),
-  tt,
-)
+      (K, (k.1.0, (_, in_state (filed_row u c.facts-facts.result n c.read_all.new.store c.read_all.new.stack l.0 c.top.result c.read_all.ensures.later m.0 m.1 l.1.1 c.top.ensures) c.filing-self.ensures))));
+}
 
 pub overflow_cast-result : goal.overflow_cast-result
 overflow_cast-result c = let few = few_policies c.args.self.now in search rules

@@ -17,8 +17,8 @@ pub invariant_of-result : goal.invariant_of-result
 invariant_of-result g c =
     let M = g.A.EffectAlgebra.effects in
     let K = codes M in
-    let Q = question_codes M g.A.EffectAlgebra.questions in (
-      ∣ (
+    let Q = question_codes M g.A.EffectAlgebra.questions in record {
+      stands = ∣ (
         K,
         (
           Q,
@@ -29,9 +29,8 @@ invariant_of-result g c =
                 c.new.ensures.sound c.new.ensures.listed (c.new.ensures.width ∙ part c.args.names.now _ 32 c.min-facts.ensures) (omega arith) c.new-2.ensures.ready c.new-2.ensures.bare (c.new-2.ensures.width ∙ part c.args.nodes.now _ 65520 c.min-slots.ensures) c.new-2.ensures.recorded) c.new-3.ensures,
           ),
         ),
-      ) ∣₁,
-      tt,
-    )
+      ) ∣₁;
+    }
 
 pub returns : goal.returns
 returns g c =

@@ -23,13 +23,12 @@ pub held-held-requires : goal.held-held-requires
 held-held-requires c = ready_store c.args.self.now
 
 pub invariant_of-self : goal.invariant_of-self
-invariant_of-self c = (
-  ∥∥₁_map c.args.self.now.stands (λ k.
+invariant_of-self c = record {
+  stands = ∥∥₁_map c.args.self.now.stands (λ k.
       let u = k.1.1.1 in
       let m = may_open u (sym (c.in_ok-refuse_opening.ensures k.0 k.1.0 k.1.1.0 u)) in
-      (k.0, (k.1.0, (_, in_state (opened u c.empty-self.result c.empty-self.ensures.bare c.empty-self.ensures.unended m.0 m.1) (c.opened-self.ensures ∙ ap (opened_state c.args.self.now.state) c.held-held.ensures.number))))),
-  tt,
-)
+      (k.0, (k.1.0, (_, in_state (opened u c.empty-self.result c.empty-self.ensures.bare c.empty-self.ensures.unended m.0 m.1) (c.opened-self.ensures ∙ ap (opened_state c.args.self.now.state) c.held-held.ensures.number)))));
+}
 
 pub returns : goal.returns
 returns c = record {
