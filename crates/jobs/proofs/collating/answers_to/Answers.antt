@@ -17,10 +17,10 @@ returns-in_err-log c = let p = err_from_is_err_and c.from_residual-in_err-log.re
 
 pub returns : goal.returns
 returns c =
-    let slots : length c.deref-mut.result.now ≡ 2048 = omega (arith, c.deref-mut.ensures.len, c.in_ok-nodes.ensures.len) in
-    let names : length c.deref-mut-2.result.now ≡ 32 = omega (arith, c.deref-mut-2.ensures.len, c.in_ok-names.ensures.len) in
-    let filled : length c.run.new.log ≡ c.in_ok-log.log.len = omega (arith, c.deref-mut-4.ensures.len, c.run.auto.log) in
+    let slots : length c.deref_mut.result.now ≡ 2048 = omega (arith, c.deref_mut.ensures.len, c.in_ok-nodes.ensures.len) in
+    let names : length c.deref_mut-2.result.now ≡ 32 = omega (arith, c.deref_mut-2.ensures.len, c.in_ok-names.ensures.len) in
+    let filled : length c.run.new.log ≡ c.in_ok-log.log.len = omega (arith, c.deref_mut-4.ensures.len, c.run.auto.log) in
     let same : length c.run.new.log ≡ length c.args.calls.now = omega (arith, filled, c.in_ok-log.ensures.len) in
     let many : c.run.result ≡ min (length c.args.calls.now) (length c.run.new.log) = omega (arith, c.run.ensures.many, c.run.auto.log) in
     subst (Answers c.args.calls.now) (as_lent c.in_ok-log.log.len c.run.new.log _ filled)
-    (all_done (Lawful four four_questions 0) (length c.deref-mut.result.now) (length c.deref-mut-2.result.now) c.run.result c.args.calls.now c.run.new.log slots names same many c.run.ensures.law)
+    (all_done (Lawful four four_questions 0) (length c.deref_mut.result.now) (length c.deref_mut-2.result.now) c.run.result c.args.calls.now c.run.new.log slots names same many c.run.ensures.law)
