@@ -87,19 +87,20 @@ fn six_combiners(rt: HostRuntime) -> Result<(), Fail> {
 fn scope_and_fail(rt: HostRuntime) {
     let four = effect_tables::<FourEffect>();
     let six = effect_tables::<SixEffect>();
+    let (stated_by_four, stated_by_six) = (four.statable, six.statable);
     for code in 0..4 {
         assert_eq!(rt; cell(&four.scope, code, 0), 0);
         assert_eq!(rt; cell(&four.scope, code, 1), code);
         assert_eq!(rt; cell(&four.fail, code, 0), code);
         assert_eq!(rt; cell(&four.fail, code, 1), 3);
-        assert_eq!(rt; four.statable[code as usize], code == 1 || code == 2);
+        assert_eq!(rt; stated_by_four[code as usize], code == 1 || code == 2);
     }
     let failed = [0, 4, 3, 3, 4, 5];
     for code in 0..6 {
         assert_eq!(rt; cell(&six.scope, code, 0), 0);
         assert_eq!(rt; cell(&six.fail, code, 0), code);
         assert_eq!(rt; cell(&six.fail, code, 1), failed[code as usize]);
-        assert_eq!(rt; six.statable[code as usize], code == 1 || code == 2);
+        assert_eq!(rt; stated_by_six[code as usize], code == 1 || code == 2);
     }
 }
 
@@ -107,20 +108,21 @@ fn scope_and_fail(rt: HostRuntime) {
 #[test]
 fn questions(rt: HostRuntime) {
     let tables = question_tables::<FourEffect>();
+    let breaks = tables.breaks;
     assert_eq!(rt; tables.count, 6);
     for first in 0..4usize {
         for second in 0..4usize {
             let at = first * 16 + second;
-            assert_eq!(rt; tables.breaks[0][at], first != second);
-            assert_eq!(rt; tables.breaks[1][at], first == 1 && second != 1);
-            assert_eq!(rt; tables.breaks[2][at], first == 2 && second != 2);
-            assert_eq!(rt; tables.breaks[3][at], second == 1 && first != 1);
+            assert_eq!(rt; breaks[0][at], first != second);
+            assert_eq!(rt; breaks[1][at], first == 1 && second != 1);
+            assert_eq!(rt; breaks[2][at], first == 2 && second != 2);
+            assert_eq!(rt; breaks[3][at], second == 1 && first != 1);
             assert_eq!(rt;
-                tables.breaks[4][at],
+                breaks[4][at],
                 (first == 1 || first == 2) && second != first
             );
             assert_eq!(rt;
-                tables.breaks[5][at],
+                breaks[5][at],
                 (first == 1 && second == 2) || (first == 2 && second == 1)
             );
         }

@@ -3,6 +3,7 @@ use crate::support::*;
 use effects::FourEffect;
 use shelf::{Call, Shelf};
 use std::process::Abort;
+use std::test::Fail;
 
 // Makes a shelf of number 7 with three facts, and makes the calls of a script on it.
 fn plays(rt: &impl Abort, script: &[(Call, Said)]) {

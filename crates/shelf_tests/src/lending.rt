@@ -2,6 +2,7 @@
 use crate::support::*;
 use effects::{FourEffect, SixEffect};
 use shelf::Shelf;
+use std::test::Fail;
 
 #[test]
 fn one_slot(rt: HostRuntime) -> Result<(), Fail> {

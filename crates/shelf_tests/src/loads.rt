@@ -2,6 +2,7 @@
 use crate::support::*;
 use effects::FourEffect;
 use shelf::{Call, Shelf};
+use std::test::Fail;
 
 #[test]
 fn worked_tapes(rt: HostRuntime) -> Result<(), Fail> {

@@ -2,6 +2,7 @@
 use crate::hostile::{Odd, Single};
 use crate::support::*;
 use shelf::{Call, Shelf};
+use std::test::Fail;
 
 // Not applicable is the last code, and two equal effects break the one question.
 #[test]

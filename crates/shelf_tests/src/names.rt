@@ -4,6 +4,7 @@ use effects::FourEffect;
 use probing::name::Name;
 use shelf::{Shelf, is_good};
 use std::process::Abort;
+use std::test::Fail;
 
 fn lettered(len: u8) -> Name {
     Name {

@@ -3,6 +3,7 @@ use crate::support::*;
 use effects::FourEffect;
 use shelf::Shelf;
 use std::process::Abort;
+use std::test::Fail;
 
 // Wants the six answers of the comparison, with a scratch of 0, 1, 3 and 64 slots.
 fn part(rt: &impl Abort, shelf: &Shelf, first: u8, second: u8, wanted: [Option<u32>; 6]) {

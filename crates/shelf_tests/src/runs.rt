@@ -3,6 +3,7 @@ use crate::support::*;
 use effects::FourEffect;
 use shelf::{Answer, Call, run};
 use std::process::Abort;
+use std::test::Fail;
 
 // Wants the answers of a log, one by one.
 fn logs(rt: &impl Abort, log: &[Answer], wanted: &[Said]) -> Result<(), Fail> {
