@@ -5,7 +5,7 @@ use Rattle.effects.specs.Cells.{cell, Small}
 use Rattle.probing.specs.declared.node.Node.{Node}
 use Rattle.diagram.specs.Tree.{Tree, Neat, same, mk, low, high, applied}
 use Rattle.diagram.specs.Tree.Tree.{terminal, branch}
-use Rattle.diagram.specs.Nodes.{tree, trees, meant, Good, inserted, tested}
+use Rattle.diagram.specs.Nodes.{trees, meant, Good, inserted, tested}
 use Rattle.diagram.specs.Building.{Parted, Made, Refused, Answer}
 use Rattle.diagram.specs.declared.store.Full.{Full}
 use Rattle.diagram.specs.declared.store.Split.{Split}

@@ -4,7 +4,7 @@ use Rattle.std.proofs.lemmas.Bool.{cases_Bool, cases_eq, cases_lt, both_ways}
 use Rattle.tape.specs.Requests.{Before}
 use Rattle.diagram.specs.Requests.{present, Witness}
 use Rattle.diagram.specs.Counted.{Same, Ignores}
-use Rattle.diagram.specs.Tree.{Tree, at, says, Neat, low, high}
+use Rattle.diagram.specs.Tree.{Tree, says, Neat, low, high}
 use Rattle.diagram.specs.Questions.{asks, Breaks, Leads, FirstFrom, WitnessFrom}
 use Rattle.diagram.proofs.Canon.{at_later, sides}
 use Rattle.diagram.proofs.Applied.{at_put}

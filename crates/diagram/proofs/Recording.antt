@@ -1,5 +1,5 @@
 -- What a store has recorded, and how that moves.
-use Rattle.std.proofs.Common.{◌≡◌, ℕ, ◌+◌, ◌-◌, ◌≤◌, min, ltb, List, [], ◌∷◌, ◌++◌, map, length, take, Ok, Err, Result, sym, ap, ◌∙◌, subst, arith, length-take, length-take-le, take-take}
+use Rattle.std.proofs.Common.{◌≡◌, ℕ, ◌≤◌, min, ltb, List, [], ◌∷◌, ◌++◌, map, length, take, Ok, Err, Result, sym, ap, ◌∙◌, subst, arith, length-take, length-take-le, take-take}
 use Rattle.std.proofs.lemmas.Bool.{lt-ltb, le-ltb}
 use Rattle.probing.specs.Kinds.{node_same, node_hashed}
 use Rattle.probing.specs.Model.{Whole}

@@ -1,5 +1,5 @@
 -- Requests by their facts, and the first request of which something holds.
-use Rattle.std.specs.Prelude.{◌≡◌, ℕ, zero, suc, ◌+◌, ◌*◌, ◌^◌, ◌<◌, Bool, cond, Some, None, Option, ◌≢◌}
+use Rattle.std.specs.Prelude.{ℕ, zero, suc, ◌+◌, ◌*◌, ◌^◌, ◌<◌, Bool, cond, Some, None, Option, ◌≢◌}
 use Rattle.tape.specs.Requests.{has, Before}
 
 -- fact f is present in the request r

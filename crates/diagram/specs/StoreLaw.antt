@@ -1,5 +1,5 @@
 -- What holds of every store that stands, said of the functions that it has recorded.
-use Rattle.std.specs.Prelude.{◌≡◌, ℕ, ◌+◌, ◌≤◌, List, [], ◌∷◌, ◌++◌, nat_lt}
+use Rattle.std.specs.Prelude.{◌≡◌, ℕ, ◌≤◌, List, [], ◌∷◌, ◌++◌, nat_lt}
 use Rattle.diagram.specs.Cofactors.{count}
 use Rattle.diagram.specs.Counted.{Same, Ignores, Each, Within}
 use Rattle.diagram.specs.Stores.{held, slots, full, Ready, Recorded, Means}

@@ -1,5 +1,5 @@
 -- A decision tree over facts: what a code stands for, with no sharing and no numbers of nodes.
-use Rattle.std.specs.Prelude.{◌≡◌, ℕ, zero, suc, ◌<◌, ◌≤◌, Bool, true, false, cond, ◌&&◌, ◌==◌, ◌≢◌}
+use Rattle.std.specs.Prelude.{ℕ, zero, suc, ◌<◌, ◌≤◌, Bool, true, false, cond, ◌&&◌, ◌==◌, ◌≢◌}
 use Rattle.diagram.specs.Requests.{present, pack}
 
 -- a terminal with its code, or a test of a fact with what follows where it is absent and where it is present

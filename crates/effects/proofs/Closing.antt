@@ -1,7 +1,6 @@
 -- The codes of a lawful algebra are closed.
-use Rattle.std.proofs.Common.{ℕ}
 use Rattle.effects.specs.Effects.{Effects, Lawful}
-use Rattle.effects.specs.Codes.{Codes, Closed, codes}
+use Rattle.effects.specs.Codes.{Closed, codes}
 
 pub closed : {E : Type 0} (M : Effects E) → Lawful M → Closed (codes M)
 closed M L = record {

@@ -1,5 +1,5 @@
 -- Four effects, in the manner of Hughes and Bultan: an error anywhere is an error of the whole.
-use Rattle.std.specs.Prelude.{ℕ, Bool, true, false, cond, not, ◌||◌, ◌==◌}
+use Rattle.std.specs.Prelude.{ℕ, Bool, cond, not, ◌||◌, ◌==◌}
 use Rattle.effects.specs.Effects.{Effects, Questions}
 use Rattle.effects.specs.Decisions.{decisions_break}
 use Rattle.effects.specs.declared.decision.Decision.{Decision}

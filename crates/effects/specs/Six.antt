@@ -1,5 +1,5 @@
 -- Six effects, those of XACML 3.0: an error tells which decisions it could have hidden.
-use Rattle.std.specs.Prelude.{ℕ, Bool, true, false, cond, not, ◌&&◌, ◌||◌, ◌==◌}
+use Rattle.std.specs.Prelude.{ℕ, Bool, cond, not, ◌&&◌, ◌||◌, ◌==◌}
 use Rattle.effects.specs.Effects.{Effects, Questions}
 use Rattle.effects.specs.Decisions.{decisions_break}
 use Rattle.effects.specs.declared.decision.Decision.{Decision}

@@ -12,7 +12,7 @@ use Rattle.tape.proofs.Stepping.{Passed, passed, next_ok, next_err}
 use Rattle.diagram.specs.Cofactors.{count}
 use Rattle.diagram.specs.Counted.{Same, Ignores, Exists, Each}
 use Rattle.diagram.specs.Entries.{store_model}
-use Rattle.diagram.specs.Stores.{nodes, held, slots, full, Ready, Recorded}
+use Rattle.diagram.specs.Stores.{held, full, Ready, Recorded}
 use Rattle.diagram.specs.declared.store.Store.{Store}
 use Rattle.diagram.proofs.CountLaws.{within_in}
 use Rattle.diagram.proofs.Elements.{each_append, some_left, some_right}

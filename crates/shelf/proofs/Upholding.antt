@@ -1,5 +1,5 @@
 -- What a shelf stands at: the names, and how each change of its parts is a change of the catalogue.
-use Rattle.std.proofs.Common.{◌≡◌, ℕ, ◌+◌, ◌-◌, ◌%◌, ◌^◌, ◌<◌, ◌≤◌, Bool, true, false, cond, ◌≢◌, ◌⊎◌, List, [], ◌∷◌, ◌++◌, map, length, get_or, set, Some, None, Option, sym, refl, ap, ◌∙◌, subst, ⊎_elim, append-nil, arith, length-append, length-set, length-take, length-take-le, get_or-set_other, get_or-set_same}
+use Rattle.std.proofs.Common.{◌≡◌, ℕ, ◌+◌, ◌%◌, ◌^◌, ◌<◌, ◌≤◌, Bool, true, false, cond, ◌≢◌, List, [], ◌∷◌, ◌++◌, map, length, get_or, set, Some, None, Option, sym, refl, ap, ◌∙◌, subst, ⊎_elim, append-nil, arith, length-append, length-set, length-take, length-take-le, get_or-set_other, get_or-set_same}
 use lib.ListN.{length-map}
 use Rattle.std.proofs.lemmas.List.{flat_map_more, get_or_append_left, get_or_push, map-append}
 use Rattle.std.proofs.lemmas.Bool.{cases_lt, false≢true, true≢false}
@@ -22,7 +22,7 @@ use Rattle.tape.proofs.Stepping.{held_at}
 use Rattle.diagram.specs.Counted.{Each, Ignores}
 use Rattle.diagram.specs.Entries.{store_model}
 use Rattle.diagram.specs.Lasting.{means_later, each_weaker}
-use Rattle.diagram.specs.Stores.{nodes, held as held_by, slots, Ready, Recorded, Means, Later, Unchanged, Back}
+use Rattle.diagram.specs.Stores.{nodes, held as held_by, Ready, Recorded, Means, Later, Unchanged, Back}
 use Rattle.diagram.specs.declared.store.Store.{Store}
 use Rattle.diagram.proofs.CountLaws.{ignores_more}
 use Rattle.diagram.proofs.Recording.{later_unchanged, recorded_facts}

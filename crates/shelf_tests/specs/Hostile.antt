@@ -1,5 +1,5 @@
 -- What the two hostile algebras mean.
-use Rattle.std.specs.Prelude.{ℕ, Bool, true, false, cond, ◌==◌}
+use Rattle.std.specs.Prelude.{ℕ, true, false, cond, ◌==◌}
 use Rattle.effects.specs.Effects.{Effects, Questions}
 use Rattle.shelf_tests.specs.declared.hostile.Odd.{Odd}
 use Rattle.shelf_tests.specs.declared.hostile.Odd.TheVariants.{Low, Middle, High, Silent}

@@ -1,5 +1,5 @@
 -- A table as it is filled, and what becomes of an input.
-use Rattle.std.proofs.Common.{◌≡◌, ℕ, ◌+◌, ◌^◌, ◌<◌, ◌≤◌, Bool, true, false, cond, ltb, leb, List, [], ◌∷◌, ◌++◌, map, length, get_or, take, IfOk, Ok, Err, vec_items, Result, sym, refl, ap, ◌∙◌, subst, arith}
+use Rattle.std.proofs.Common.{◌≡◌, ℕ, ◌+◌, ◌^◌, ◌<◌, ◌≤◌, Bool, true, false, cond, ltb, List, [], ◌∷◌, ◌++◌, map, length, get_or, take, IfOk, Ok, Err, Result, sym, ap, ◌∙◌, subst, arith}
 use Rattle.std.proofs.lemmas.List.{take_more, map_push, map_more}
 use Rattle.std.proofs.lemmas.Bool.{le-ltb, lt-leb, cond-false}
 use Rattle.effects.specs.Codes.{Codes}
@@ -10,7 +10,7 @@ use Rattle.tape.specs.declared.refusal.RefusedAt.{RefusedAt}
 use Rattle.tape.specs.declared.refusal.Refusal.TheVariants.{TapeTooLong}
 use Rattle.tabulation.specs.Inputs.{Asked, asked}
 use Rattle.tabulation.specs.Order.{requests, Ordered}
-use Rattle.tabulation.specs.Tables.{masks, answers, codes_of, reads, Filled, Tells, Becomes, Outcomes, Says}
+use Rattle.tabulation.specs.Tables.{masks, answers, codes_of, reads, Filled, Becomes, Outcomes, Says}
 use Rattle.tabulation.specs.declared.input.BadInput.{BadInput}
 use Rattle.tabulation.specs.declared.input.EffectSet.{EffectSet}
 use Rattle.tabulation.specs.declared.input.Input.{Input}

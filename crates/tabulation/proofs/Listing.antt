@@ -1,5 +1,5 @@
 -- The list of requests: how a recursion over the facts lays it out, and that it is in order.
-use Rattle.std.proofs.Common.{◌≡◌, ℕ, zero, suc, ◌+◌, ◌-◌, ◌*◌, ◌/◌, ◌%◌, ◌^◌, ◌<◌, ◌≤◌, Bool, true, false, eqb, ◌⊎◌, List, [], ◌∷◌, ◌++◌, map, length, get_or, sym, refl, ap, ◌∙◌, subst, inl, inr, ⊎_elim, map-id, mul_assoc, mul-le-mul_left, mul-add, one-add, arith, length-append, pow_pos}
+use Rattle.std.proofs.Common.{◌≡◌, ℕ, zero, suc, ◌+◌, ◌-◌, ◌*◌, ◌/◌, ◌%◌, ◌^◌, ◌<◌, ◌≤◌, true, false, eqb, ◌⊎◌, List, [], ◌∷◌, ◌++◌, map, length, get_or, sym, ap, ◌∙◌, subst, inl, inr, ⊎_elim, map-id, mul_assoc, mul-le-mul_left, mul-add, one-add, arith, length-append, pow_pos}
 use mathlib.Core.Path.{fun_ext}
 use mathlib.Core.List.{map-append, map-map}
 use native.Mathlib.Nat.{pow-succ'}

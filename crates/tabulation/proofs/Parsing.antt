@@ -1,5 +1,5 @@
 -- An input with nothing wrong in it.
-use Rattle.std.proofs.Common.{◌≡◌, ℕ, ◌-◌, ◌≤◌, Bool, true, cond, ◌||◌, eqb, ltb, List, length, get_or, take, drop, Ok, Err, Result, sym, ap, ◌∙◌, arith, length-drop, take_all}
+use Rattle.std.proofs.Common.{◌≡◌, ℕ, ◌-◌, ◌≤◌, true, cond, ◌||◌, eqb, List, length, get_or, take, drop, Ok, Err, Result, sym, ap, ◌∙◌, arith, length-drop, take_all}
 use Rattle.std.proofs.lemmas.Bool.{le-ltb, cond-true, cond-false}
 use Rattle.tabulation.specs.Inputs.{Asked, asked, effect_set}
 use Rattle.tabulation.specs.declared.input.BadInput.{BadInput}

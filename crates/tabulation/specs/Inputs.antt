@@ -1,5 +1,5 @@
 -- How the bytes of an input are taken apart.
-use Rattle.std.specs.Prelude.{ℕ, Bool, cond, not, ◌||◌, List, length, drop, Ok, Err, Result, ◌==◌, nat_lt, slice_index}
+use Rattle.std.specs.Prelude.{ℕ, cond, ◌||◌, List, length, drop, Ok, Err, Result, ◌==◌, nat_lt, slice_index}
 use Rattle.tabulation.specs.declared.input.EffectSet.{EffectSet}
 use Rattle.tabulation.specs.declared.input.EffectSet.TheVariants.{Four, Six}
 use Rattle.tabulation.specs.declared.input.BadInput.{BadInput}

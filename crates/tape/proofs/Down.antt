@@ -1,9 +1,9 @@
 -- The first entries of an array, the last of them first.
-use Rattle.std.proofs.Common.{◌≡◌, ℕ, zero, suc, ◌+◌, ◌-◌, ◌<◌, ◌≤◌, Bool, true, false, cond, not, ◌&&◌, ◌||◌, ◌≢◌, List, [], ◌∷◌, ◌++◌, length, get_or, drop, set, sym, refl, ap, ◌∙◌, subst, zero-add, add-one, arith, get_or-set_other, get_or-set_same}
+use Rattle.std.proofs.Common.{◌≡◌, ℕ, zero, suc, ◌+◌, ◌-◌, ◌<◌, ◌≤◌, Bool, true, false, ◌&&◌, ◌≢◌, List, [], ◌∷◌, length, get_or, drop, set, sym, refl, ap, ◌∙◌, subst, zero-add, add-one, arith, get_or-set_other, get_or-set_same}
 use Rattle.tape.specs.Tape.{same_kind, fits}
 use Rattle.tape.specs.Entries.{down}
 use Rattle.tape.specs.declared.command.Kind.{Kind}
-use Rattle.tape.specs.declared.command.Kind.TheVariants.{Condition, Policy}
+use Rattle.tape.specs.declared.command.Kind.TheVariants.{Condition}
 
 pub length_down : {A : Type 0} (z : A) (xs : List A) (d : ℕ) → length (down z xs d) ≡ d
 length_down z xs zero = refl

@@ -1,13 +1,13 @@
 -- Reading a whole tape, command by command.
-use Rattle.std.proofs.Common.{◌≡◌, ℕ, zero, suc, ◌+◌, ◌-◌, ◌^◌, ◌<◌, ◌≤◌, Bool, true, false, cond, not, ◌&&◌, ◌||◌, eqb, ltb, leb, List, [], ◌∷◌, ◌++◌, length, get_or, take, drop, Ok, Err, Result, sym, refl, ap, ◌∙◌, subst, le_refl, arith, length-drop, drop_of_length-le, take_all, drop-drop}
+use Rattle.std.proofs.Common.{◌≡◌, ℕ, zero, suc, ◌+◌, ◌-◌, ◌^◌, ◌<◌, ◌≤◌, Bool, true, false, cond, not, ◌&&◌, ltb, leb, List, [], ◌∷◌, ◌++◌, length, take, drop, Ok, Err, Result, sym, refl, ap, ◌∙◌, subst, arith, length-drop, drop_of_length-le, take_all, drop-drop}
 use mathlib.Core.Path.{fun_ext}
 use Rattle.std.proofs.lemmas.Bool.{cond-true, cond-false}
-use Rattle.effects.specs.Codes.{Codes, Closed}
+use Rattle.effects.specs.Codes.{Codes}
 use Rattle.tape.specs.Refusals.{at_place}
-use Rattle.tape.specs.Tape.{Row, values, result, kinds, is_end, ended, Tests, first_of, bind, checked, next_command, after, bytes_taken, tape_from, told, no_tests, opening, read_answer}
+use Rattle.tape.specs.Tape.{Row, values, kinds, is_end, ended, Tests, first_of, bind, checked, next_command, after, bytes_taken, tape_from, told, no_tests, read_answer}
 use Rattle.tape.specs.Entries.{Model, down, Meant, Holds, own_tests, own_command, Moved, Stepped}
 use Rattle.tape.specs.declared.command.Command.{Command}
-use Rattle.tape.specs.declared.command.Kind.TheVariants.{Condition, Policy}
+use Rattle.tape.specs.declared.command.Kind.TheVariants.{Condition}
 use Rattle.tape.specs.declared.refusal.Refusal.{Refusal}
 use Rattle.tape.specs.declared.refusal.RefusedAt.{RefusedAt}
 use Rattle.tape.specs.declared.refusal.Refusal.TheVariants.{NoSlot, NoEnd, TooManyFacts, UndeclaredInRequest, TapeTooLong}

@@ -1,12 +1,12 @@
 -- One command: what the tests say under the algebra, and what the stack means after it.
-use Rattle.std.proofs.Common.{◌≡◌, ℕ, zero, suc, ◌+◌, ◌-◌, ◌<◌, ◌≤◌, Bool, true, false, cond, not, ◌&&◌, ◌||◌, eqb, leb, List, [], ◌∷◌, ◌++◌, length, get_or, drop, Ok, Err, Result, sym, refl, ap, ◌∙◌, subst, ⊎_elim, arith}
+use Rattle.std.proofs.Common.{◌≡◌, ℕ, zero, suc, ◌<◌, ◌≤◌, Bool, true, false, cond, not, ◌&&◌, ◌||◌, eqb, leb, List, [], ◌∷◌, ◌++◌, length, get_or, drop, Ok, Err, Result, sym, refl, ap, ◌∙◌, subst, ⊎_elim, arith}
 use mathlib.Core.Path.{fun_ext}
-use Rattle.std.proofs.lemmas.Bool.{cond_both, eqb-true, and_parts, or_parts, leb-false, le-leb, false≢true, true≢false, cond-true, cond-false, cases_lt, lt-leb}
+use Rattle.std.proofs.lemmas.Bool.{cond_both, eqb-true, and_parts, or_parts, leb-false, le-leb, false≢true, true≢false, cond-true, cond-false, cases_lt}
 use Rattle.effects.specs.Codes.{Codes, Closed}
 use Rattle.tape.specs.Requests.{has, any, all}
 use Rattle.tape.specs.Tape.{Row, same_kind, takes, leaves, Reader, stack, of_kinds, means, at_request, values, result, kinds, is_end, ended, decoded, fits, undeclared, unstatable, no_combiner, Tests, first_of, operand_tests, stack_tests, bind, then, checked, next_command, after, bytes_taken}
 use Rattle.effects.specs.Tables.{Tables, bit}
-use Rattle.tape.specs.Entries.{Model, Gives, of_tables, tabled, down, Meant, Put, Fit, Sound, Holds, own_tests, own_command, Moves, Moved, Stepped}
+use Rattle.tape.specs.Entries.{Model, Gives, of_tables, tabled, down, Meant, Put, Fit, Sound, Holds, own_tests, own_command, Moved, Stepped}
 use Rattle.tape.specs.declared.command.Command.{Command}
 use Rattle.tape.specs.declared.command.Command.TheVariants.{Has, Any, All, Not, And, Or, State, Scope, Fail, Join, End}
 use Rattle.tape.specs.declared.command.Kind.{Kind}

@@ -1,5 +1,5 @@
 -- Worked policies, with what they must answer: a list of statements about the definitions that the contracts cite.
-use Rattle.std.specs.Prelude.{◌≡◌, ℕ, true, false, List, [], ◌∷◌, Ok, Result}
+use Rattle.std.specs.Prelude.{◌≡◌, ℕ, true, false, List, [], ◌∷◌, Ok}
 use Rattle.effects.specs.Effects.{Effects}
 use Rattle.effects.specs.Codes.{codes}
 use Rattle.effects.specs.Four.{four}

@@ -1,4 +1,4 @@
-use Rattle.std.proofs.Common.{◌≡◌, ℕ, List, IfOk, Some, vec_items, Option, sym, ap, ◌∙◌, subst, append-nil}
+use Rattle.std.proofs.Common.{ℕ, List, IfOk, Some, vec_items, Option, sym, ap, ◌∙◌, subst, append-nil}
 use Rattle.composing.specs.Commands.{Adds}
 use Rattle.composing.proofs.Dispatch.{no_words, by_verb, not_declare, not_compare, not_ask, as_declare, as_load, as_compare, as_ask, adds_none, adds_some}
 use Rattle.composing.proofs.commands.push_command.Goals as goal

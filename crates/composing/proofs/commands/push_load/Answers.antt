@@ -1,4 +1,3 @@
-use Rattle.std.proofs.Common.{vec_items}
 use Rattle.composing.proofs.Loading.{read_none, read_more, unread, too_many, all_read}
 use Rattle.composing.proofs.commands.push_load.Goals as goal
 

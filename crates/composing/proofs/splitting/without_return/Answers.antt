@@ -1,4 +1,4 @@
-use Rattle.std.proofs.Common.{◌≡◌, ◌-◌, Bool, cond, eqb, length, get_or, take, sym, refl, ap, arith}
+use Rattle.std.proofs.Common.{◌-◌, length, get_or, sym}
 use Rattle.std.proofs.lemmas.Bool.{ne_eqb, cond-false}
 use Rattle.composing.proofs.Cutting.{no_return}
 use Rattle.composing.proofs.splitting.without_return.Goals as goal

@@ -1,4 +1,4 @@
-use Rattle.std.proofs.Common.{ℕ, List, vec_items, sym, refl, ap, ◌∙◌}
+use Rattle.std.proofs.Common.{vec_items, refl, ap, ◌∙◌}
 use Rattle.std.proofs.lemmas.Bool.{eq-eqb, ne_eqb}
 use Rattle.composing.specs.Pieces.{texts, filled, pieces_of, before_comment}
 use Rattle.composing.specs.declared.separating.Separator.TheVariants.{Blank}

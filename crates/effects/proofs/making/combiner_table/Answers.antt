@@ -1,5 +1,4 @@
 use Rattle.effects.specs.Codes.{codes}
-use Rattle.effects.specs.Tables.{scoped, failing}
 use Rattle.effects.proofs.Cells.{cells_none, cells_more, cells_all}
 use Rattle.effects.proofs.making.combiner_table.Goals as goal
 

@@ -1,4 +1,4 @@
-use Rattle.std.proofs.Common.{◌≡◌, ℕ, ◌-◌, ◌<◌, ◌≤◌, ◌&&◌, ◌||◌, eqb, List, sym, ap, ◌∙◌, subst, arith, lit≤}
+use Rattle.std.proofs.Common.{◌≡◌, ℕ, ◌-◌, ◌<◌, ◌&&◌, ◌||◌, eqb, List, sym, ap, ◌∙◌, subst, arith, lit≤}
 use Rattle.effects.specs.Codes.{codes}
 use Rattle.effects.specs.Cells.{cell, Filled, Small}
 use Rattle.effects.specs.Tables.{bit, scoped, failing}

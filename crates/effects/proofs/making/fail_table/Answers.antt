@@ -1,5 +1,5 @@
 use Rattle.effects.specs.Codes.{codes}
-use Rattle.effects.specs.Tables.{scoped, failing}
+use Rattle.effects.specs.Tables.{failing}
 use Rattle.effects.proofs.Cells.{cells_none, cells_more, cells_all}
 use Rattle.effects.proofs.making.fail_table.Goals as goal
 

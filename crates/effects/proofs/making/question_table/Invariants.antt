@@ -1,7 +1,6 @@
 use Rattle.std.proofs.Common.{◌≡◌, false, length}
-use Rattle.effects.specs.Codes.{codes, question_codes}
+use Rattle.effects.specs.Codes.{question_codes}
 use Rattle.effects.specs.Cells.{Filled}
-use Rattle.effects.specs.Tables.{scoped, failing}
 use Rattle.effects.proofs.making.question_table.Given as goal
 
 abbrev pub invariant-loop-n : goal.invariant-loop-n

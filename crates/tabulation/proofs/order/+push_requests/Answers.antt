@@ -1,4 +1,4 @@
-use Rattle.std.proofs.Common.{◌≡◌, ℕ, suc, ◌+◌, ◌-◌, ◌*◌, ◌^◌, ◌<◌, ◌≤◌, List, ◌++◌, map, vec_items, sym, ap, ◌∙◌, append_assoc, arith}
+use Rattle.std.proofs.Common.{◌≡◌, ℕ, suc, ◌+◌, ◌-◌, ◌*◌, List, ◌++◌, map, vec_items, sym, ap, ◌∙◌, append_assoc, arith}
 use Rattle.tabulation.specs.Order.{requests}
 use Rattle.tabulation.proofs.Listing.{laid_none, laid_more, weight_more, weight_fits}
 use Rattle.tabulation.proofs.order.+push_requests.Goals as goal

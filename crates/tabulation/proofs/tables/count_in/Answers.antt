@@ -1,4 +1,4 @@
-use Rattle.std.proofs.Common.{◌≡◌, ℕ, ◌+◌, ◌<◌, ◌≤◌, Bool, true, false, cond, eqb, List, length, get_or, take, sym, ap, ◌∙◌, add-zero, arith, take_all}
+use Rattle.std.proofs.Common.{ℕ, ◌+◌, ◌≤◌, Bool, cond, length, get_or, take, sym, ap, ◌∙◌, add-zero, arith, take_all}
 use Rattle.std.proofs.lemmas.Bool.{eq-eqb, ne_eqb}
 use Rattle.tabulation.specs.Tables.{tally}
 use Rattle.tabulation.specs.declared.rows.Row.{Row}

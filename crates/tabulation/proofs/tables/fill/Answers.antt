@@ -1,4 +1,4 @@
-use Rattle.std.proofs.Common.{◌≡◌, ℕ, ◌≤◌, List, map, length, get_or, vec_items, sym, refl, ap, ◌∙◌, arith, take_all, rules}
+use Rattle.std.proofs.Common.{◌≤◌, map, length, vec_items, sym, refl, ap, ◌∙◌, arith, take_all}
 use Rattle.effects.specs.Codes.{codes}
 use Rattle.effects.proofs.Closing.{closed}
 use Rattle.tape.specs.Tape.{read_answer}

@@ -1,4 +1,4 @@
-use Rattle.std.proofs.Common.{◌≡◌, ◌≤◌, sym, ◌∙◌, subst, arith}
+use Rattle.std.proofs.Common.{◌≤◌, sym, ◌∙◌, subst, arith}
 use Rattle.tabulation.specs.Order.{Ordered}
 use Rattle.tabulation.specs.declared.input.EffectSet.TheVariants.{Four, Six}
 use Rattle.tabulation.proofs.Filling.{says_made}

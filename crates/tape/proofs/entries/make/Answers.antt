@@ -1,4 +1,4 @@
-use Rattle.std.proofs.Common.{◌≡◌, Ok, Err, sym, refl, subst}
+use Rattle.std.proofs.Common.{Ok, sym, refl, subst}
 use Rattle.tape.specs.Entries.{Makes, Within}
 use Rattle.tape.proofs.entries.make.Goals as goal
 

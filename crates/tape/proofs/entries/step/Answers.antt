@@ -1,4 +1,3 @@
-use Rattle.std.proofs.Common.{◌≡◌}
 use Rattle.std.proofs.lemmas.Result.{err_from_is_err_and}
 use Rattle.tape.proofs.Stepping.{held_at, step_refused, step_ok, step_full}
 use Rattle.tape.proofs.entries.step.Goals as goal

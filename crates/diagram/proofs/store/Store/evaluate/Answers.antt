@@ -1,4 +1,4 @@
-use Rattle.std.proofs.Common.{◌-◌, sym, ap, ◌∙◌, arith}
+use Rattle.std.proofs.Common.{sym, ap, ◌∙◌, arith}
 use Rattle.diagram.specs.Tree.{says}
 use Rattle.diagram.specs.Nodes.{trees}
 use Rattle.diagram.specs.Stores.{nodes}

@@ -1,5 +1,5 @@
-use Rattle.std.proofs.Common.{◌≡◌, suc, ◌-◌, sym, ◌∙◌, arith, rules}
-use Rattle.tape.proofs.Down.{fits_none, fits_one}
+use Rattle.std.proofs.Common.{◌≡◌, suc, ◌-◌, sym, ◌∙◌, arith}
+use Rattle.tape.proofs.Down.{fits_one}
 use Rattle.tape.proofs.outline.Outline.tops.Goals as goal
 
 pub returns : goal.returns

@@ -1,10 +1,9 @@
-use Rattle.std.proofs.Common.{◌≡◌, ℕ, ◌+◌, ◌-◌, ◌<◌, ◌≤◌, Bool, true, false, ◌||◌, List, ◌∷◌, length, drop, set, sym, refl, ap, ◌∙◌, subst, arith, rules}
-use Rattle.tape.specs.Tape.{takes, leaves, is_end}
-use Rattle.tape.specs.Entries.{down, Put}
+use Rattle.std.proofs.Common.{◌≡◌, ℕ, ◌+◌, ◌-◌, ◌<◌, ◌≤◌, Bool, ◌||◌, List, ◌∷◌, length, drop, set, ap, ◌∙◌, arith, rules}
+use Rattle.tape.specs.Tape.{takes, leaves}
+use Rattle.tape.specs.Entries.{down}
 use Rattle.tape.specs.declared.command.Kind.{Kind}
 use Rattle.tape.specs.declared.command.Kind.TheVariants.{Condition}
 use Rattle.tape.specs.declared.command.Command.{Command}
-use Rattle.tape.specs.declared.stack.Stack.{Stack}
 use Rattle.tape.proofs.Down.{down_put}
 use Rattle.tape.proofs.stack.Stack.put.Goals as goal
 
