@@ -1,5 +1,5 @@
 -- What a row of nodes means: a list of trees, each once, in the order in which they came.
-use Rattle.std.specs.Prelude.{◌≡◌, ℕ, ◌+◌, ◌-◌, ◌<◌, Bool, false, cond, ◌||◌, List, [], ◌∷◌, ◌++◌, map, length, get_or, take, None, Option, nat_lt, slice_index_or}
+use Rattle.std.specs.Prelude.{◌≡◌, ℕ, ◌+◌, ◌-◌, ◌<◌, Bool, false, cond, ◌||◌, List, [], ◌∷◌, ◌++◌, map, length, take, None, Option, nat_lt, slice_index_or}
 use Rattle.probing.specs.declared.node.Node.{Node}
 use Rattle.probing.specs.Table.{nth}
 use Rattle.diagram.specs.Counted.{Exists}
@@ -59,7 +59,7 @@ no_node = record { fact = 0; low = 0; high = 0 }
 
 -- nodes whose children are older, and whose trees are ordered, reduced and apart
 pub record Good (n : ℕ) (xs : List Node) : Type 0 where
-  pub older : (i : ℕ) → i < length xs → ((get_or xs i no_node).low < 16 + i) × ((get_or xs i no_node).high < 16 + i)
+  pub older : (i : ℕ) → i < length xs → ((slice_index_or xs i no_node).low < 16 + i) × ((slice_index_or xs i no_node).high < 16 + i)
   pub neat : (i : ℕ) → i < length xs → Neat n 0 (slice_index_or (trees xs) i (terminal 0))
   pub apart : (i j : ℕ) → i < length xs → j < length xs → slice_index_or (trees xs) i (terminal 0) ≡ slice_index_or (trees xs) j (terminal 0) → i ≡ j
 

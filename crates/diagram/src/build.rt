@@ -6,7 +6,7 @@ ghost use Rattle.probing.specs.Kinds.{node_same, node_hashed};
 ghost use Rattle.probing.specs.Model.{Whole};
 ghost use Rattle.tape.specs.Requests.{has, any as some, all as every_of};
 ghost use Rattle.diagram.specs.Counted.{Same};
-ghost use Rattle.diagram.specs.Tree.{says, Neat, mk, applied, ladder as LadderOf};
+ghost use Rattle.diagram.specs.Tree.{says, Neat, mk, applied, ladder as ladder_of};
 ghost use Rattle.diagram.specs.Nodes.{trees, meant, tested, inserted};
 ghost use Rattle.diagram.specs.Building.{Answer};
 ghost use Rattle.diagram.specs.Stores.{nodes, held, slots, meaning, Standing, Ready, Later, Outcome};
@@ -65,7 +65,7 @@ impl Store<'_> {
         ensures whole { Whole node_same node_hashed self.new.unique }
         ensures width { slots self.new ≡ slots self.old }
         ensures gives { Answer 32 (slots self.old) (nodes self.old) (nodes self.new)
-            (inserted (trees (nodes self.old)) (LadderOf every mask (32 - from) from)) (LadderOf every mask (32 - from) from) result }
+            (inserted (trees (nodes self.old)) (ladder_of every mask (32 - from) from)) (ladder_of every mask (32 - from) from) result }
     {
         if from >= FACTS {
             return Ok(if every { 1 } else { 0 });
@@ -85,7 +85,7 @@ impl Store<'_> {
     fn of_mask(&mut self, mask: u32, every: bool) -> Result<u16, Full>
         requires { Standing self.old }
         ensures stands { Standing self.new }
-        ensures gives { (F : ℕ → ℕ) → Same 32 (says (LadderOf every mask 32 0)) F → Outcome self.old F self.new result }
+        ensures gives { (F : ℕ → ℕ) → Same 32 (says (ladder_of every mask 32 0)) F → Outcome self.old F self.new result }
     {
         let start = self.unique.count();
         match self.ladder(mask, every, 0) {

@@ -8,7 +8,7 @@ use probing::Slot;
 use probing::node::Node;
 use probing::pair::Pair;
 use std::test::Fail;
-use tape::{Entries, Stack, step};
+use tape::{Stack, step};
 
 // Slots with left-overs in them.
 const JUNK: Slot<Node> = Slot {

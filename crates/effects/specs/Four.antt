@@ -39,7 +39,7 @@ first_applicable a b = cond (same a NotApplicable) b a
 abbrev pub only_one : FourEffect → FourEffect → FourEffect
 only_one a b = cond (same a NotApplicable) b (cond (same b NotApplicable) a Error)
 
--- combiner 0 is deny-overrides, 1 permit-overrides, 2 first-applicable, 3 only_one
+-- combiner 0 is deny-overrides, 1 permit-overrides, 2 first-applicable, 3 only-one
 abbrev pub combined : ℕ → FourEffect → FourEffect → FourEffect
 combined k a b =
     cond (k == 0) (overrides Deny Permit a b)

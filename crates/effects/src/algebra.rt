@@ -4,7 +4,8 @@ ghost use Rattle.effects.specs.Effects.{Effects, Questions, Lawful, Few};
 
 // A finite set of effects with their codes, combiners and questions. The type that implements it is
 // the set. What it means stands in two ghost records, the effects and the questions that can be asked
-// of two of them; every function answers what its record says, and depends on its arguments alone.
+// of two of them; every function answers what its record says, of the combiners and questions that there
+// are, and depends on its arguments alone.
 pub trait EffectAlgebra: Copy {
     ghost effects: { Effects Self };
 
@@ -39,19 +40,18 @@ pub trait EffectAlgebra: Copy {
     fn combiner_count() -> u8
         ensures { result ≡ effects.combiners };
 
-    // The effect that a combiner gives for a first and a second.
+    // The effect that a combiner gives for a first and a second; any effect where there is no such combiner. An algebra
+    // may have none, so this cannot be required of a caller.
     fn combine(combiner: u8, first: Self, second: Self) -> Self
-        requires { combiner < effects.combiners }
-        ensures { result ≡ effects.combined combiner first second };
+        ensures { combiner < effects.combiners → result ≡ effects.combined combiner first second };
 
     // How many questions there are.
     fn question_count() -> u8
         ensures { result ≡ questions.questions };
 
-    // Whether a pair (first, second) breaks a question.
+    // Whether a pair (first, second) breaks a question; any answer where there is no such question, as with combiners.
     fn breaks(question: u8, first: Self, second: Self) -> bool
-        requires { question < questions.questions }
-        ensures { result ≡ questions.breaks question first second };
+        ensures { question < questions.questions → result ≡ questions.breaks question first second };
 
     // code and effect undo each other on both sides, and the counts are within their limits
     ghost lawful: { Lawful effects };
