@@ -1,5 +1,5 @@
 -- What each call answers at a catalogue, refusals in the order in which they are checked, and the catalogue after it.
-use Rattle.std.specs.Prelude.{◌≡◌, ℕ, ◌%◌, ◌^◌, true, cond, not, ◌&&◌, ltb, List, [], ◌∷◌, ◌++◌, length, is_some, Some, None, Ok, Err, Option, Result, nat_le, nat_lt}
+use Rattle.std.specs.Prelude.{◌≡◌, ℕ, ◌%◌, ◌^◌, true, cond, not, ◌&&◌, List, [], ◌∷◌, ◌++◌, length, is_some, Some, None, Ok, Err, Option, Result, nat_le, nat_lt}
 use Rattle.effects.specs.Codes.{Codes, QuestionCodes}
 use Rattle.probing.specs.Kinds.{text}
 use Rattle.probing.specs.Table.{number_of}
@@ -43,7 +43,7 @@ open_answer c = first_of (opening_tests c) (c.making.number, c.given % 2 ^ 32)
 
 -- the shelf's own last test of a command, after the results Fs over n facts: 39 where held with its result would be more than the slots
 abbrev pub slot_tests : Codes → ℕ → ℕ → List (ℕ → ℕ) → Row → Command → Tests
-slot_tests K slots n Fs row x = own_tests (λ F. ltb slots (count n (Fs ++ F ∷ []))) K row x
+slot_tests K slots n Fs row x = own_tests (λ F. nat_lt slots (count n (Fs ++ F ∷ []))) K row x
 
 -- feed: 22 for another draft; else the next command, by the tape rules
 unfoldable pub fed : Codes → Catalogue → ℕ → ℕ → List ℕ → Result (Command × ℕ) Refusal
