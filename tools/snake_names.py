@@ -6,7 +6,7 @@ usage: python3 tools/snake_names.py [CRATES]      (CRATES: the folder crates/ un
 It ran once, after the scripts that turn an older Rattle's spelling had run. A name with dashes or in camel case that a file of
 specs/ or proofs/ declares gets underscores, wherever it is cited: in specs/, proofs/ and the ghost text of src/. Names of the
 library and names that the check makes (goals, steps of the code) keep their dashes; so do comments, strings and must-fail/.
-It refuses to write anything where two names would fall together in one file.
+It lists the places where two names come to be spelled alike, and writes all the same: look at each.
 """
 import os
 import re
