@@ -3,7 +3,7 @@ use Rattle.std.proofs.Common.{◌≡◌, ℕ, ◌+◌, ◌-◌, ◌%◌, ◌<◌
 use Rattle.std.proofs.lemmas.Bool.{cases_order}
 use Rattle.probing.specs.Table.{Holds, serials, stored, gap, home, Other, Nowhere}
 use Rattle.probing.specs.declared.Slot.{Slot}
-use Rattle.probing.proofs.Ring.{gap_home, gap_same, gap_below, gap_next, gap_round}
+use Rattle.probing.proofs.Ring.{gap_same, gap_below}
 use Rattle.probing.proofs.Places.{holds_same, holds_read}
 use Rattle.probing.proofs.Slots.{serial_read, key_read, long_serials}
 
@@ -11,22 +11,11 @@ module _ {K : Type 0} (ss : List (Slot K)) where
   pub ringed : (sc : ℕ) → 0 < length ss → home (length (serials ss)) sc < length (serials ss)
   ringed sc p = mod-lt sc (omega (arith, long_serials ss))
 
-  pub start : (sc x : ℕ) → 0 < length ss → x ≡ sc → gap (length (serials ss)) (home (length (serials ss)) sc) (x % length ss) ≡ 0
-  start sc x p e =
-      let i : x % length ss ≡ home (length (serials ss)) sc = ap (λ y. y % length ss) e ∙ ap (λ n. sc % n) (sym (long_serials ss)) in
-      ap (gap (length (serials ss)) (home (length (serials ss)) sc)) i ∙ gap_home (length (serials ss)) (home (length (serials ss)) sc) (ringed sc p)
+  -- so many steps from home, round the slots or round their serials
+  pub as_ring : (sc x i gone : ℕ) → x ≡ sc → gap (length ss) (x % length ss) i ≡ gone → gap (length (serials ss)) (home (length (serials ss)) sc) i ≡ gone
+  as_ring sc x i gone e a = ap (λ n. gap n (home n sc) i) (long_serials ss) ∙ ap (λ y. gap (length ss) (y % length ss) i) (sym e) ∙ a
 
   module _ (sc : ℕ) (i gone : ℕ) (in-range : i < length ss) (at : gap (length (serials ss)) (home (length (serials ss)) sc) i ≡ gone) where
-    pub next : i + 1 < length ss → gone + 1 < length ss → gap (length (serials ss)) (home (length (serials ss)) sc) (i + 1) ≡ gone + 1
-    next l m =
-        let e = long_serials ss in
-        gap_next (length (serials ss)) (home (length (serials ss)) sc) (ringed sc (omega arith)) i (omega arith) (omega arith) ∙ ap (λ g. g + 1) at
-
-    pub round : i + 1 ≡ length ss → gone + 1 < length ss → gap (length (serials ss)) (home (length (serials ss)) sc) 0 ≡ gone + 1
-    round l m =
-        let e = long_serials ss in
-        gap_round (length (serials ss)) (home (length (serials ss)) sc) (ringed sc (omega arith)) i (omega arith) (omega arith) ∙ ap (λ g. g + 1) at
-
     module _ (same : K → K → Bool) (k : K) (passed : (p : ℕ) → p < length (serials ss) → gap (length (serials ss)) (home (length (serials ss)) sc) p < gone → Other same (serials ss) (stored ss) k p) (here : Other same (serials ss) (stored ss) k i) where
       pub passed_more : (p : ℕ) → p < length (serials ss) → gap (length (serials ss)) (home (length (serials ss)) sc) p < gone + 1 → Other same (serials ss) (stored ss) k p
       passed_more p l g = elim (cases_order (gap (length (serials ss)) (home (length (serials ss)) sc) p) gone) [
@@ -34,8 +23,8 @@ module _ {K : Type 0} (ss : List (Slot K)) where
         | inr o ↦ elim o [ inl a ↦ passed p l a | inr b ↦ absurd (omega arith) ]
       ]
 
-      pub passed_all : gone + 1 ≡ length ss → Nowhere same (serials ss) (stored ss) k
-      passed_all e p l = passed_more p l (omega (arith, gap_below (length (serials ss)) (home (length (serials ss)) sc) (ringed sc (omega arith)) p l, long_serials ss))
+  pub passed_all : (sc : ℕ) (same : K → K → Bool) (k : K) → 0 < length ss → ((p : ℕ) → p < length (serials ss) → gap (length (serials ss)) (home (length (serials ss)) sc) p < length ss → Other same (serials ss) (stored ss) k p) → Nowhere same (serials ss) (stored ss) k
+  passed_all sc same k some passed p l = passed p l (omega (arith, gap_below (length (serials ss)) (home (length (serials ss)) sc) (ringed sc some) p l, long_serials ss))
 
   -- What the reads at a taken bucket tell: of slot i, whose serial it is, and of the slot to which the serial leads. The reads
   -- come with defaults of their own, d and e.

@@ -1,5 +1,6 @@
 -- The slots of a table, read as its two lists.
 use Rattle.std.proofs.Common.{◌≡◌, ℕ, zero, suc, ◌-◌, ◌<◌, ◌≤◌, Bool, true, List, [], ◌∷◌, map, length, get_or, take, set, replicate, Some, None, sym, refl, ap, ◌∙◌, subst, arith}
+use Rattle.std.specs.Cmp.{IsPartialEquivalence}
 use Rattle.std.proofs.lemmas.List.{length-set, length-map, set-get_or}
 use Rattle.std.proofs.lemmas.Bool.{lt-leb}
 use Rattle.probing.specs.Table.{Holds, serials, stored, Sound, Stopped, Nowhere, cut, free, trimmed, number_of, nth}
@@ -115,7 +116,7 @@ module _ {K : Type 0} (same : K → K → Bool) (hash : K → ℕ) (ss : List (S
     room_left e = omega (arith, room same hash (serials ss) (stored ss) n sound i stop.within (bucket_read ∙ e), long_serials ss)
 
     -- at any other: the bucket leads to it
-    pub at_taken : ((x y : K) → same x y ≡ true → same y x ≡ true) → ((x y z : K) → same x y ≡ true → same y z ≡ true → same x z ≡ true) → ((get_or ss i d).serial ≡ 0 → ⊥) → number_of same k (take n (stored ss)) ≡ Some ((get_or ss i d).serial - 1)
-    at_taken turned along ne =
+    pub at_taken : IsPartialEquivalence same → ((get_or ss i d).serial ≡ 0 → ⊥) → number_of same k (take n (stored ss)) ≡ Some ((get_or ss i d).serial - 1)
+    at_taken laws ne =
         let taken : 0 < get_or (serials ss) i 0 = let e = bucket_read in omega arith in
-        number_there same hash (serials ss) (stored ss) n sound turned along k i stop taken ∙ ap (λ m. Some (m - 1)) bucket_read
+        number_there same hash (serials ss) (stored ss) n sound laws k i stop taken ∙ ap (λ m. Some (m - 1)) bucket_read

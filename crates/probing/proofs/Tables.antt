@@ -4,6 +4,7 @@ use mathlib.Core.Logic.{∥∥₁_elim}
 use mathlib.Core.HLevel.{Π_prop}
 use denote.Struct.Props.{props}
 use Rattle.std.proofs.lemmas.List.{length-set, length-map, length-take-le, get_or-set_same, get_or-set_other, take_more_set}
+use Rattle.std.specs.Cmp.{IsPartialEquivalence}
 use Rattle.std.proofs.lemmas.Bool.{cases_order, both_ways, eq-eqb, eqb-true, lt-ltb, le-ltb}
 use Rattle.std.proofs.lemmas.Bool.Decides.{nat_tests}
 use Rattle.probing.specs.Table.{Holds, spot, number_from, number_of, gap, home, Sound, Distinct, Stopped, Nowhere, cut, free, numbered, grown, answered, extended}
@@ -115,17 +116,15 @@ module _ {K : Type 0} (same : K → K → Bool) (hash : K → ℕ) (bs : List �
   leads_in i p = omega (arith, sound.counted i, sound.fits)
 
   -- the number of a key that is there
-  pub number_found : ((x y : K) → same x y ≡ true → same y x ≡ true) → ((x y z : K) → same x y ≡ true → same y z ≡ true → same x z ≡ true)
-      → (k : K) (n : ℕ) (x : K) → Holds (take c ks) n x → same x k ≡ true → number_of same k (take c ks) ≡ Some n
-  number_found turned along k n x h e =
-      number_hit same k (take c ks) 0 n x h e (λ m y g l. false_from (same y k) (λ f. omega (arith, sound.apart m n y x g h (along y k x f (turned x k e))))) ∙ ap Some (omega arith)
+  pub number_found : IsPartialEquivalence same → (k : K) (n : ℕ) (x : K) → Holds (take c ks) n x → same x k ≡ true → number_of same k (take c ks) ≡ Some n
+  number_found laws k n x h e =
+      number_hit same k (take c ks) 0 n x h e (λ m y g l. false_from (same y k) (λ f. omega (arith, sound.apart m n y x g h (laws.trans y k x f (laws.symm k x ∙ e))))) ∙ ap Some (omega arith)
 
   -- and where a search stopped at its bucket
-  pub number_there : ((x y : K) → same x y ≡ true → same y x ≡ true) → ((x y z : K) → same x y ≡ true → same y z ≡ true → same x z ≡ true)
-      → (k : K) (i : ℕ) → Stopped same hash bs ks k i → 0 < get_or bs i 0 → number_of same k (take c ks) ≡ Some (get_or bs i 0 - 1)
-  number_there turned along k i stop taken =
+  pub number_there : IsPartialEquivalence same → (k : K) (i : ℕ) → Stopped same hash bs ks k i → 0 < get_or bs i 0 → number_of same k (take c ks) ≡ Some (get_or bs i 0 - 1)
+  number_there laws k i stop taken =
       let a = at_place ks (get_or bs i 0 - 1) (leads_in i taken) in
-      number_found turned along k (get_or bs i 0 - 1) a.0 (leads i a.0 taken a.1) (stop.there a.0 taken a.1)
+      number_found laws k (get_or bs i 0 - 1) a.0 (leads i a.0 taken a.1) (stop.there a.0 taken a.1)
 
   pub number_absent : (k : K) → ((n : ℕ) (y : K) → Holds (take c ks) n y → same y k ≡ false) → number_of same k (take c ks) ≡ None
   number_absent k none = number_miss same k (take c ks) 0 none
@@ -220,7 +219,7 @@ sound_none same hash bs ks level narrow free = record {
 
 -- A new key written at the next number, and that number's serial into the free bucket at which the search for it stopped.
 module _ {K : Type 0} (same : K → K → Bool) (hash : K → ℕ) (bs : List ℕ) (ks : List K) (c : ℕ) (sound : Sound same hash bs ks c)
-    (turned : (x y : K) → same x y ≡ true → same y x ≡ true) (even : (x y : K) → same x y ≡ true → hash x ≡ hash y)
+    (laws : IsPartialEquivalence same) (even : (x y : K) → same x y ≡ true → hash x ≡ hash y)
     (k : K) (i : ℕ) (stop : Stopped same hash bs ks k i) (free : get_or bs i 0 ≡ 0) where
   below : c < length ks
   below = omega (arith, room same hash bs ks c sound i stop.within free, sound.level)
@@ -285,7 +284,7 @@ module _ {K : Type 0} (same : K → K → Bool) (hash : K → ℕ) (bs : List �
           | inr v ↦ absurd (both_ways (same x k) (fresh n x u) (rw v.1 at e))
         ]
         | inr u ↦ elim (holds_push (take c ks) k m y g) [
-          | inl v ↦ absurd (both_ways (same y k) (fresh m y v) (turned k y (rw u.1 at e)))
+          | inl v ↦ absurd (both_ways (same y k) (fresh m y v) (let t : same k y ≡ true = rw u.1 at e in laws.symm y k ∙ t))
           | inr v ↦ u.0 ∙ sym v.0
         ]
       ]

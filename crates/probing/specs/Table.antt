@@ -63,6 +63,11 @@ pub record Sound {K : Type 0} (same : K → K → Bool) (hash : K → ℕ) (bs :
   -- every bucket from a key's home on to its bucket leads to an older key
   pub aged : (i p : ℕ) (k : K) → 0 < slice_index bs i → Holds ks (slice_index bs i - 1) k → p < length bs → gap (length bs) (home (length bs) (hash k)) p < gap (length bs) (home (length bs) (hash k)) i → (0 < slice_index bs p) × (slice_index bs p < slice_index bs i)
 
+-- The invariant, in a form that a ghost field can state: in ∥ ∥₁, since antt does not find by itself that `Sound` has one
+-- proof at most. `opened` of proofs/Tables.antt takes it out again.
+abbrev pub Whole : {K : Type 0} → (K → K → Bool) → (K → ℕ) → List (Slot K) → ℕ → Type 0
+Whole same hash ss count = ∥ Sound same hash (serials ss) (stored ss) count ∥₁
+
 -- Bucket p leads to a key that is another than k.
 abbrev pub Other : {K : Type 0} → (K → K → Bool) → List ℕ → List K → K → ℕ → Type 0
 Other {K} same bs ks k p = (0 < slice_index bs p) × ((l : K) → Holds ks (slice_index bs p - 1) l → same l k ≡ false)

@@ -11,22 +11,6 @@ use probing::table::Table;
 use probing::{Key, Slot};
 use std::test::Fail;
 
-const NO_NAME: Name = Name {
-    len: 0,
-    bytes: [0; 16],
-};
-
-const NO_NODE: Node = Node {
-    fact: 0,
-    low: 0,
-    high: 0,
-};
-
-const NO_PAIR: Pair = Pair {
-    first: 0,
-    second: 0,
-};
-
 // Junk, as lent memory may hold it.
 const JUNK: Slot<Pair> = Slot {
     key: Pair {
@@ -41,27 +25,15 @@ fn pair(first: u16) -> Pair {
 }
 
 // A kind of key all of whose keys have one hash.
-#[derive(Clone, Copy)]
+#[derive(Clone, Copy, PartialEq, Eq, Debug)]
 struct Level {
     code: u8,
 }
 
 impl Key for Level {
-    ghost same = { λ x y. (x.code == y.code) };
-
     ghost hashed = { λ _. 7 };
 
-    ghost reflexive = { Prim.search rules };
-
-    ghost symmetric = { Prim.search rules };
-
-    ghost transitive = { Prim.search rules };
-
     ghost even = { Prim.search rules };
-
-    fn same_as(&self, other: &Level) -> bool {
-        self.code == other.code
-    }
 
     fn hash(&self) -> u32 {
         7
@@ -71,7 +43,7 @@ impl Key for Level {
 #[test]
 fn no_slots(rt: HostRuntime) {
     let mut slots = [JUNK; 0];
-    let mut table = Table::new(&mut slots, NO_PAIR);
+    let mut table = Table::new(&mut slots, Pair::default());
     assert_eq!(rt; table.count(), 0);
     assert_eq!(rt; table.find(&pair(1)), None);
     assert_eq!(rt; table.insert(pair(1)), None);
@@ -82,7 +54,7 @@ fn no_slots(rt: HostRuntime) {
 #[test]
 fn one_slot(rt: HostRuntime) {
     let mut slots = [JUNK; 1];
-    let mut table = Table::new(&mut slots, NO_PAIR);
+    let mut table = Table::new(&mut slots, Pair::default());
     assert_eq!(rt; table.insert(pair(1)), Some(0));
     assert_eq!(rt; table.insert(pair(1)), Some(0));
     assert_eq!(rt; table.insert(pair(2)), None);
@@ -94,7 +66,7 @@ fn one_slot(rt: HostRuntime) {
 #[test]
 fn all_slots(rt: HostRuntime) -> Result<(), Fail> {
     let mut slots = [JUNK; 5];
-    let mut table = Table::new(&mut slots, NO_PAIR);
+    let mut table = Table::new(&mut slots, Pair::default());
     for first in 0..5 {
         assert_eq!(rt; table.insert(pair(first)), Some(first as usize));
     }
@@ -102,10 +74,8 @@ fn all_slots(rt: HostRuntime) -> Result<(), Fail> {
     table.roll_back(2);
     assert_eq!(rt; table.find(&pair(1)), Some(1));
     assert_eq!(rt; table.find(&pair(2)), None);
-    let Some(second) = table.key(1) else {
-        return Err(Fail::new("there is no key 1"));
-    };
-    assert!(rt; second.same_as(&pair(1)) && table.key(2).is_none());
+    assert_eq!(rt; table.key(1), Some(pair(1)));
+    assert_eq!(rt; table.key(2), None);
     Ok(())
 }
 
@@ -139,14 +109,14 @@ fn names(rt: HostRuntime) {
     let longer = Name { len: 8, bytes };
     let whole = Name { len: 16, bytes };
     let over = Name { len: 200, bytes };
-    assert!(rt; short.same_as(&padded) && short.hash() == padded.hash());
-    assert!(rt; whole.same_as(&over) && whole.hash() == over.hash());
-    assert!(rt; !short.same_as(&longer) && !longer.same_as(&whole));
+    assert!(rt; short == padded && short.hash() == padded.hash());
+    assert!(rt; whole == over && whole.hash() == over.hash());
+    assert!(rt; short != longer && longer != whole);
     let mut slots = [Slot {
         key: over,
         serial: 65535,
     }; 3];
-    let mut table = Table::new(&mut slots, NO_NAME);
+    let mut table = Table::new(&mut slots, Name::default());
     assert_eq!(rt; table.insert(short), Some(0));
     assert_eq!(rt; table.insert(over), Some(1));
     assert_eq!(rt; table.find(&padded), Some(0));
@@ -160,10 +130,10 @@ fn mirrored(scratch: &mut [Slot<Pair>], pair: Pair) -> Option<usize>
 {
     let guard = Guard {
         slots: scratch,
-        blank: NO_PAIR,
+        blank: Pair::default(),
     };
     let n = guard.slots.len().min(65535);
-    let mut seen = Table::new(&mut guard.slots[0..n], NO_PAIR);
+    let mut seen = Table::new(&mut guard.slots[0..n], Pair::default());
     let first = seen.insert(pair)?;
     let second = seen.insert(Pair {
         first: pair.second,
@@ -186,7 +156,7 @@ fn guarded(rt: HostRuntime) {
         ),
         None
     );
-    assert!(rt; one[0].key.same_as(&NO_PAIR) && one[0].serial == 0);
+    assert_eq!(rt; one[0], Slot::default());
     let mut many = [JUNK; 65537];
     assert_eq!(rt;
         mirrored(
@@ -199,7 +169,7 @@ fn guarded(rt: HostRuntime) {
         Some(1)
     );
     for slot in &many {
-        assert!(rt; slot.key.same_as(&NO_PAIR) && slot.serial == 0);
+        assert_eq!(rt; *slot, Slot::default());
     }
 }
 
@@ -209,13 +179,17 @@ fn probes<K: Key>(slots: &[Slot<K>], key: &K) -> usize {
     if n == 0 {
         return 0;
     }
-    let mut i = key.hash() as usize % n;
-    for gone in 0..n {
+    let home = key.hash() as usize % n;
+    for probed in 0..n {
+        let i = if probed < n - home {
+            home + probed
+        } else {
+            probed - (n - home)
+        };
         let serial = slots[i].serial as usize;
-        if serial == 0 || serial > n || slots[serial - 1].key.same_as(key) {
-            return gone + 1;
+        if serial == 0 || serial > n || slots[serial - 1].key == *key {
+            return probed + 1;
         }
-        i = if i + 1 == n { 0 } else { i + 1 };
     }
     n
 }
@@ -233,18 +207,12 @@ fn node(i: u16) -> Node
 // Half of 4096 slots are taken. A hash that spread at random would have a search for a key look at 1.5 buckets in the mean.
 #[test]
 fn nodes_spread(rt: HostRuntime) -> Result<(), Fail> {
-    let mut slots = [Slot {
-        key: NO_NODE,
-        serial: 0,
-    }; 4096];
-    let mut table = Table::new(&mut slots, NO_NODE);
+    let mut slots = [Slot::default(); 4096];
+    let mut table = Table::new(&mut slots, Node::default());
     for i in 0..2048 {
         assert_eq!(rt; table.insert(node(i)), Some(i as usize));
     }
-    let mut total: usize = 0;
-    for i in 0..2048 {
-        total = total.wrapping_add(probes(&slots, &node(i)));
-    }
+    let total = (0..2048).fold(0usize, |sum, i| sum.wrapping_add(probes(&slots, &node(i))));
     assert_eq!(rt; total, 3031, "1.48 buckets to a key");
     Ok(())
 }
@@ -262,18 +230,12 @@ fn name(i: u16) -> Name {
 // The same with half of 4099 slots, a prime number of them.
 #[test]
 fn names_spread(rt: HostRuntime) -> Result<(), Fail> {
-    let mut slots = [Slot {
-        key: NO_NAME,
-        serial: 0,
-    }; 4099];
-    let mut table = Table::new(&mut slots, NO_NAME);
+    let mut slots = [Slot::default(); 4099];
+    let mut table = Table::new(&mut slots, Name::default());
     for i in 0..2048 {
         assert_eq!(rt; table.insert(name(i)), Some(i as usize));
     }
-    let mut total: usize = 0;
-    for i in 0..2048 {
-        total = total.wrapping_add(probes(&slots, &name(i)));
-    }
+    let total = (0..2048).fold(0usize, |sum, i| sum.wrapping_add(probes(&slots, &name(i))));
     assert_eq!(rt; total, 3050, "1.49 buckets to a key");
     Ok(())
 }

@@ -4,10 +4,11 @@ use Rattle.probing.proofs.table.Table.count.Goals as goal
 
 pub returns : goal.returns
 returns g c =
-    let k = g.K.Key in
+    let eq = g.K.PartialEq.eq in
+    let hashed = g.K.Key.hashed in
     let self = c.args.self.now in
     record {
-      number = sym (many k.same k.hashed self.slots.now self.count c.requires);
-      within = within k.same k.hashed self.slots.now self.count c.requires;
-      apart = (sound k.same k.hashed self.slots.now self.count c.requires).apart;
+      number = sym (many eq hashed self.slots.now self.count c.args.self.now.whole);
+      within = within eq hashed self.slots.now self.count c.args.self.now.whole;
+      apart = (sound eq hashed self.slots.now self.count c.args.self.now.whole).apart;
     }

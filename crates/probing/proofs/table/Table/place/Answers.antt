@@ -1,9 +1,13 @@
 use Rattle.std.proofs.Common.{arith}
-use Rattle.probing.proofs.Slots.{sound, within}
+use Rattle.probing.proofs.Slots.{sound, within, narrow}
 use Rattle.probing.proofs.table.Table.place.Goals as goal
 
 pub seek-requires : goal.seek-requires
-seek-requires g c h =
-    let k = g.K.Key in
+seek-requires g c =
+    let eq = g.K.PartialEq.eq in
+    let hashed = g.K.Key.hashed in
     let self = c.args.self.now in
-    omega (arith, (sound k.same k.hashed self.slots.now self.count c.requires).counted h, within k.same k.hashed self.slots.now self.count c.requires)
+    record {
+      narrow = narrow eq hashed self.slots.now self.count self.whole;
+      led = λ h. omega (arith, (sound eq hashed self.slots.now self.count self.whole).counted h, within eq hashed self.slots.now self.count self.whole);
+    }

@@ -5,9 +5,22 @@ use Rattle.probing.proofs.Tables.{trim_sound}
 use Rattle.probing.proofs.Slots.{sound, many, sound_as, trim_serials, trim_stored}
 use Rattle.probing.proofs.table.Table.roll_back.Goals as goal
 
+pub invariant_of-self : goal.invariant_of-self
+invariant_of-self g c =
+    let eq = g.K.PartialEq.eq in
+    let hashed = g.K.Key.hashed in
+    let self = c.args.self.now in
+    let ss = self.slots.now in
+    let n = c.args.n in
+    let le : n ≤ self.count = omega arith in
+    record {
+      whole = ∣ sound_as eq hashed c.trim.new.slots (map (cut n) (serials ss)) (stored ss) n (ap serials c.trim.ensures ∙ trim_serials n ss) (ap stored c.trim.ensures ∙ trim_stored n ss) (trim_sound eq hashed (serials ss) (stored ss) self.count (sound eq hashed ss self.count self.whole) n le) ∣₁;
+    }
+
 pub returns-then-n-self : goal.returns-then-n-self
 returns-then-n-self g c =
-    let k = g.K.Key in
+    let eq = g.K.PartialEq.eq in
+    let hashed = g.K.Key.hashed in
     let ss = c.args.self.now.slots.now in
     let count = c.args.self.now.count in
     let n = c.args.n in
@@ -15,7 +28,6 @@ returns-then-n-self g c =
     let m = ap serials c.trim.ensures ∙ trim_serials n ss in
     let s = ap stored c.trim.ensures ∙ trim_stored n ss in
     record {
-      sound = ∣ sound_as k.same k.hashed c.trim.new.slots (map (cut n) (serials ss)) (stored ss) n m s (trim_sound k.same k.hashed (serials ss) (stored ss) count (sound k.same k.hashed ss count c.requires) n le) ∣₁;
       listed = ap (take n) s ∙ sym (take-take n count (stored ss) le);
       stay = s;
       width = ap length c.trim.ensures ∙ length-map ss _;
@@ -23,7 +35,8 @@ returns-then-n-self g c =
 
 pub returns-else-n-self : goal.returns-else-n-self
 returns-else-n-self g c =
-    let k = g.K.Key in
+    let eq = g.K.PartialEq.eq in
+    let hashed = g.K.Key.hashed in
     let ss = c.args.self.now.slots.now in
     let count = c.args.self.now.count in
-    record { sound = c.requires; listed = sym (take_all c.args.n (take count (stored ss)) (omega (arith, many k.same k.hashed ss count c.requires))); stay = refl; width = refl }
+    record { listed = sym (take_all c.args.n (take count (stored ss)) (omega (arith, many eq hashed ss count c.args.self.now.whole))); stay = refl; width = refl }

@@ -3,8 +3,8 @@ use Rattle.std.proofs.lemmas.List.Edits.{map_over_more}
 use Rattle.std.proofs.lemmas.List.{take_all, drop_all}
 use Rattle.probing.specs.Table.{trimmed}
 use Rattle.probing.proofs.Slots.{trim_off, trim_on}
-use Rattle.probing.proofs.table.trim.Goals as goal
-use Rattle.probing.proofs.table.trim.Goals.{then-slot-n, else-slot-n}
+use Rattle.probing.proofs.keeping.trim.Goals as goal
+use Rattle.probing.proofs.keeping.trim.Goals.{then-slot-n, else-slot-n}
 
 pub loop-slot-preserved : goal.loop-slot-preserved
 loop-slot-preserved g c =

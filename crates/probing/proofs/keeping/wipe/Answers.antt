@@ -3,7 +3,7 @@ use Rattle.std.proofs.lemmas.List.Edits.{map_over_more}
 use Rattle.std.proofs.lemmas.List.{take_all, drop_all}
 use Rattle.probing.specs.Table.{free}
 use Rattle.probing.proofs.Places.{map_const}
-use Rattle.probing.proofs.table.wipe.Goals as goal
+use Rattle.probing.proofs.keeping.wipe.Goals as goal
 
 pub loop-slot-preserved : goal.loop-slot-preserved
 loop-slot-preserved g c = map_over_more (λ _. free c.args.blank) c.args.slots.now c.loop-slot.slots c.loop-slot.slot-index c.slot-item.result c.loop-slot-test.true c.loop-slot.invariant c.slot-item.is

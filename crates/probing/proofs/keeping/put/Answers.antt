@@ -1,6 +1,6 @@
 use Rattle.std.proofs.Common.{◌+◌}
 use Rattle.probing.proofs.Slots.{twice_serials, twice_stored}
-use Rattle.probing.proofs.table.put.Goals as goal
+use Rattle.probing.proofs.keeping.put.Goals as goal
 
 pub returns : goal.returns
 returns g c =
