@@ -1,12 +1,14 @@
 -- What a store's outcome is for a reader of tapes.
-use Rattle.std.proofs.Common.{ℕ, false, Ok, Err, Result, refl}
+use Rattle.std.proofs.Common.{◌≡◌, ℕ, false, Ok, Err, Result, sym, subst}
 use Rattle.tape.specs.Entries.{Gives}
-use Rattle.diagram.specs.Stores.{Outcome}
-use Rattle.diagram.specs.Entries.{store_model, refused}
-use Rattle.diagram.specs.declared.store.Full.{Full}
+use Rattle.tape.specs.declared.refusal.Refusal.{Refusal}
+use Rattle.tape.specs.declared.refusal.Refusal.TheVariants.{NoSlot}
+use Rattle.diagram.specs.Stores.{Taken, TooMany}
+use Rattle.diagram.specs.Entries.{store_model}
 use Rattle.diagram.specs.declared.store.Store.{Store}
 
--- an outcome is what a reader's command gives
-pub gives_from : (s t : Store) (F : ℕ → ℕ) (r : Result ℕ Full) → Outcome s F t r → Gives store_model false s t F (refused r)
-gives_from s t F (Ok c) d = (d.fits, d.means, d.grows)
-gives_from s t F (Err e) d = (d.full, refl, d.same)
+pub gives_taken : (s t : Store) (F : ℕ → ℕ) (c : ℕ) → Taken s F t c → Gives store_model false s t F (Ok c)
+gives_taken s t F c d = (d.fits, d.means, d.grows)
+
+pub gives_full : (s t : Store) (F : ℕ → ℕ) (r : Result ℕ Refusal) (e : Refusal) → r ≡ Err e → e ≡ NoSlot → TooMany s F t → Gives store_model false s t F r
+gives_full s t F r e p q d = subst (Gives store_model false s t F) (sym p) (d.full, q, d.same)

@@ -1,18 +1,16 @@
 -- What holds of stores.
 use Rattle.std.proofs.Common.{◌≡◌, ℕ, suc, ◌+◌, ◌<◌, ◌≤◌, List, length, get_or, refl, arith}
-use mathlib.Core.Logic.{∥∥₁_elim, ∥∥₁_prop}
+use mathlib.Core.Logic.{∥∥₁_elim}
 use mathlib.Core.HLevel.{Π_prop}
 use denote.Struct.Props.{props}
-use Rattle.probing.specs.Kinds.{node_same, node_hashed}
-use Rattle.probing.specs.Model.{Whole}
 use Rattle.probing.specs.declared.node.Node.{Node}
 use Rattle.diagram.specs.Tree.{Tree, Neat}
 use Rattle.diagram.specs.Tree.Tree.{terminal, branch}
 use Rattle.diagram.specs.Nodes.{trees, no_node, Good}
-use Rattle.diagram.specs.Stores.{nodes, slots, Standing, Ready}
+use Rattle.diagram.specs.Stores.{nodes}
 use Rattle.diagram.specs.declared.store.Store.{Store}
 
--- `Standing` has one proof at most
+-- `Good` has one proof at most
 neat_prop : (n k : ℕ) (t : Tree) → IsProp (Neat n k t)
 neat_prop n k (terminal v) x y = refl
 neat_prop n k (branch f l h) x y =
@@ -38,18 +36,6 @@ module _ (n : ℕ) (xs : List Node) where
     apart = apart_prop x.apart y.apart i;
   }
 
-standing_prop : (s : Store) → IsProp (Standing s)
-standing_prop s x y =
-    let a : IsProp (slots s ≤ 65520) = hlevel props in
-    λ i. record {
-      whole = ∥∥₁_prop x.whole y.whole i;
-      cap = a x.cap y.cap i;
-      good = good_prop 32 (nodes s) x.good y.good i;
-    }
-
-pub opened : (s : Store) → Ready s → Standing s
-opened s r = ∥∥₁_elim r (standing_prop s) (λ x. x)
-
--- the invariant after nodes were built
-pub standing_after : (s t : Store) → Standing s → Whole node_same node_hashed t.unique → slots t ≡ slots s → Good 32 (nodes t) → Standing t
-standing_after s t st w e g = record { whole = w; cap = omega (arith, st.cap, e); good = g }
+-- the nodes of a store, out of its ghost field
+pub good : (s : Store) → Good 32 (nodes s)
+good s = ∥∥₁_elim s.good (good_prop 32 (nodes s)) (λ x. x)

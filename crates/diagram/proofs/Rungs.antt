@@ -1,5 +1,6 @@
 -- How the diagrams of "any fact" and "every fact" are built, fact by fact.
 use Rattle.std.proofs.Common.{◌≡◌, ℕ, suc, ◌+◌, ◌-◌, ◌<◌, ◌≤◌, Bool, true, false, cond, List, Result, sym, refl, ap, ◌∙◌, subst, inl, inr, add-one, arith}
+use mir.Val.{bool_byte}
 use Rattle.std.proofs.lemmas.Bool.{cases_Bool}
 use Rattle.probing.specs.declared.node.Node.{Node}
 use Rattle.diagram.specs.Requests.{present}
@@ -10,6 +11,11 @@ use Rattle.diagram.specs.Building.{Made, Refused, Answer}
 use Rattle.diagram.specs.declared.store.Full.{Full}
 use Rattle.diagram.proofs.Ladders.{ladder_in, ladder_out, ladder_end, ladder_neat}
 use Rattle.diagram.proofs.Combining.{made_terminal, refused_low, refused_high, answered}
+
+-- 1 or 0, as a number
+pub byte_end : (b : Bool) (v : ℕ) → v ≡ bool_byte b → (cond b 1 0 ≡ v) × (v < 16)
+byte_end true v e = (sym e, omega (arith, e))
+byte_end false v e = (sym e, omega (arith, e))
 
 -- no fact is left
 pub end_made : (n k : ℕ) (xs : List Node) → Good n xs → (every : Bool) (mask v : ℕ) → n ≤ k → cond every 1 0 ≡ v → v < 16

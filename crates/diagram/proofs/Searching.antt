@@ -1,7 +1,9 @@
 -- What the steps of the search for a first request leave to show.
 use Rattle.std.proofs.Common.{◌≡◌, ℕ, suc, ◌+◌, ◌-◌, ◌^◌, ◌<◌, ◌≤◌, Bool, true, false, eqb, ltb, List, [], ◌∷◌, ◌++◌, length, Some, None, Option, sym, ◌∙◌, subst, ap₂, subst₂, inl, inr, add-one, arith}
 use Rattle.std.proofs.lemmas.Nat.{pow_pos}
-use Rattle.std.proofs.lemmas.Bool.{cases_Bool, cases_lt, cond-true, cond-false, lt-ltb, le-ltb, eqb-true, and_parts, both_ways}
+use Rattle.std.proofs.lemmas.Bool.{cases_Bool, cases_lt, cond-true, cond-false, lt-ltb, le-ltb, eqb-true, and_parts, both_ways, false≢true}
+use Rattle.std.specs.Bool.{then_some}
+use Rattle.std.specs.Option.{is_some}
 use Rattle.probing.specs.Kinds.{pair_same}
 use Rattle.probing.specs.Table.{number_from, number_of, extended, grown}
 use Rattle.probing.specs.declared.node.Node.{Node}
@@ -9,7 +11,7 @@ use Rattle.probing.specs.declared.pair.Pair.{Pair}
 use Rattle.diagram.specs.Tree.{says, low, high}
 use Rattle.diagram.specs.Nodes.{trees, meant}
 use Rattle.diagram.specs.Building.{Parted}
-use Rattle.diagram.specs.Questions.{asks, Breaks, Kept, FirstFrom, Searched}
+use Rattle.diagram.specs.Questions.{asks, Breaks, Kept, FirstFrom, WitnessFrom, Searched}
 use Rattle.diagram.specs.declared.store.Split.{Split}
 use Rattle.diagram.proofs.Elements.{each_append}
 use Rattle.diagram.proofs.Nodes.{tree_const}
@@ -21,11 +23,16 @@ module _ (n : ℕ) (xs : List Node) (q : List Bool) (a b : ℕ) (ha : a < 16) (h
   const_asks : (s : ℕ) → asks q (says (meant xs a) s) (says (meant xs b) s) ≡ asks q a b
   const_asks s = ap₂ (λ x y. asks q (says x s) (says y s)) (tree_const (trees xs) a ha) (tree_const (trees xs) b hb)
 
-  pub const_kept : asks q a b ≡ false → Kept n q (says (meant xs a)) (says (meant xs b))
+  const_kept : asks q a b ≡ false → Kept n q (says (meant xs a)) (says (meant xs b))
   const_kept e s h z = both_ways (asks q a b) e (sym (const_asks s) ∙ z)
 
-  pub const_found : (k : ℕ) → k ≤ n → asks q a b ≡ true → FirstFrom n k (Breaks q (says (meant xs a)) (says (meant xs b))) 0
+  const_found : (k : ℕ) → k ≤ n → asks q a b ≡ true → FirstFrom n k (Breaks q (says (meant xs a)) (says (meant xs b))) 0
   const_found k h e = first_zero n k _ h (const_asks 0 ∙ e) (pow_pos n)
+
+  -- the first request, if it breaks the question
+  pub terminals : (k : ℕ) → k ≤ n → (r : Bool) → r ≡ asks q a b → WitnessFrom n k (Breaks q (says (meant xs a)) (says (meant xs b))) (then_some r 0)
+  terminals k h true e = const_found k h (sym e)
+  terminals k h false e = const_kept (sym e)
 
 -- two codes that part
 module _ (n k : ℕ) (xs : List Node) (q : List Bool) (a b : ℕ) (p : Split) (P : Parted n k xs a b p) where
@@ -84,8 +91,9 @@ module _ (n : ℕ) (q : List Bool) (xs : List Node) where
     | inr t ↦ seen_from k (m + 1) ps i (e ∙ cond-false (pair_same p k) _ _ t) s.1
   ]
 
-  pub seen_clear : (k : Pair) (ps : List Pair) (i : ℕ) → Some i ≡ number_of pair_same k ps → Searched n q xs ps → Clear k
-  seen_clear k ps i e s = seen_from k 0 ps i e s
+  pub seen_some : (k : Pair) (ps : List Pair) (o : Option ℕ) → is_some o ≡ true → o ≡ number_of pair_same k ps → Searched n q xs ps → Clear k
+  seen_some k ps (Some i) t e s = seen_from k 0 ps i e s
+  seen_some k ps None t e s = absurd (false≢true t)
 
   -- one more
   pub searched_more : (k : Pair) (slots : ℕ) (ps ps' : List Pair) → ps' ≡ grown pair_same k slots ps → Clear k → Searched n q xs ps → Searched n q xs ps'

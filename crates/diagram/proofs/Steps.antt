@@ -22,6 +22,17 @@ found_from x n (k ∷ ks) i e = elim (cases_Bool (node_same k x)) [
   | inr t ↦ let r = found_from x (n + 1) ks i (sym (cond-false (node_same k x) _ _ t) ∙ e) in (suc r.0, omega (arith, r.1), omega (arith, r.2), r.3)
 ]
 
+-- a refused insertion changes nothing
+pub none_still : (x : Node) (slots : ℕ) (xs ys : List Node) → None ≡ numbered node_same x slots xs → ys ≡ grown node_same x slots xs → ys ≡ xs
+none_still x slots xs ys a b = go (number_of node_same x xs) a b
+  where
+    go : (o : Option ℕ) → None ≡ answered slots xs o → ys ≡ extended slots xs x o → ys ≡ xs
+    go (Some j) p q = q
+    go None p q = elim (cases_lt (length xs) slots) [
+      | inl h ↦ let p' : None ≡ Some (length xs) = p ∙ cond-true (ltb (length xs) slots) _ _ (lt-ltb (length xs) slots h) in let z : ◌≡◌ {A = ℕ} 0 1 = cc in absurd (omega arith)
+      | inr h ↦ q ∙ cond-false (ltb (length xs) slots) _ _ (le-ltb (length xs) slots h)
+    ]
+
 -- of one that is not
 missing_from : (x : Node) (n : ℕ) (ks : List Node) → number_from node_same x n ks ≡ None → (j : ℕ) → j < length ks → node_same (get_or ks j no_node) x ≡ false
 missing_from x n [] e j h = absurd (omega arith)
@@ -176,6 +187,13 @@ module _ (n : ℕ) (xs : List Node) (g : Good n xs) (f lo hi : ℕ) (hl : lo < 1
               subst (λ zs. Refused slots xs zs (tested (trees xs) f (meant xs lo) (meant xs hi))) (sym q') (made_full (missing_from x 0 xs e) slots h)
         ]
 
+    -- whatever it answered, the nodes after it are good
+    pub good_after : (f < n) → Neat n (f + 1) (meant xs lo) → Neat n (f + 1) (meant xs hi) → (slots : ℕ) (ys : List Node) (o : Option ℕ)
+        → o ≡ numbered node_same (record { fact = f; low = lo; high = hi }) slots xs → ys ≡ grown node_same (record { fact = f; low = lo; high = hi }) slots xs
+        → Good n ys
+    good_after hf wl wh slots ys (Some i) a b = (made_some hf wl wh slots ys i a b).good
+    good_after hf wl wh slots ys None a b = subst (Good n) (sym (none_still x slots xs ys a b)) g
+
 -- a number that was answered is below the slots
 pub numbered_below : (x : Node) (slots : ℕ) (xs : List Node) (i : ℕ) → length xs ≤ slots → Some i ≡ numbered node_same x slots xs → i < slots
 numbered_below x slots xs i l a = go (number_of node_same x xs) refl a
@@ -185,15 +203,4 @@ numbered_below x slots xs i l a = go (number_of node_same x xs) refl a
     go None e p = elim (cases_lt (length xs) slots) [
       | inl h ↦ let p' : Some i ≡ Some (length xs) = p ∙ cond-true (ltb (length xs) slots) _ _ (lt-ltb (length xs) slots h) in let ei : i ≡ length xs = cc in omega arith
       | inr h ↦ let p' : Some i ≡ None = p ∙ cond-false (ltb (length xs) slots) _ _ (le-ltb (length xs) slots h) in let z : ◌≡◌ {A = ℕ} 0 1 = cc in absurd (omega arith)
-    ]
-
--- a refused insertion changes nothing
-pub none_still : (x : Node) (slots : ℕ) (xs ys : List Node) → None ≡ numbered node_same x slots xs → ys ≡ grown node_same x slots xs → ys ≡ xs
-none_still x slots xs ys a b = go (number_of node_same x xs) a b
-  where
-    go : (o : Option ℕ) → None ≡ answered slots xs o → ys ≡ extended slots xs x o → ys ≡ xs
-    go (Some j) p q = q
-    go None p q = elim (cases_lt (length xs) slots) [
-      | inl h ↦ let p' : None ≡ Some (length xs) = p ∙ cond-true (ltb (length xs) slots) _ _ (lt-ltb (length xs) slots h) in let z : ◌≡◌ {A = ℕ} 0 1 = cc in absurd (omega arith)
-      | inr h ↦ q ∙ cond-false (ltb (length xs) slots) _ _ (le-ltb (length xs) slots h)
     ]

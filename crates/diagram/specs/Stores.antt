@@ -1,12 +1,11 @@
 -- What a store means. A request is a number below 2 ^ 32, one bit for each fact that can be declared.
 use Rattle.std.specs.Prelude.{◌≡◌, ℕ, ◌+◌, ◌<◌, ◌≤◌, Bool, true, false, List, [], ◌∷◌, ◌++◌, length, take, Ok, Err, Result, nat_lt}
-use Rattle.probing.specs.Kinds.{node_same, node_hashed}
-use Rattle.probing.specs.Model.{Whole, keys, room}
+use Rattle.probing.specs.Model.{keys, room}
 use Rattle.probing.specs.declared.node.Node.{Node}
 use Rattle.diagram.specs.Cofactors.{count}
 use Rattle.diagram.specs.Counted.{Same, Lists}
 use Rattle.diagram.specs.Tree.{says, tree_of}
-use Rattle.diagram.specs.Nodes.{trees, meant, functions, inserted, Good, Begins}
+use Rattle.diagram.specs.Nodes.{trees, meant, functions, inserted, Begins}
 use Rattle.diagram.specs.declared.store.Full.{Full}
 use Rattle.diagram.specs.declared.store.Store.{Store}
 
@@ -25,16 +24,6 @@ slots s = room s.unique
 -- what a code means at a request; a code that names no node means 0
 abbrev pub meaning : Store → ℕ → ℕ → ℕ
 meaning s c r = says (meant (nodes s) c) r
-
--- the invariant: the unique table's, a code for each slot, and nodes that are ordered, reduced and apart
-pub record Standing (s : Store) : Type 0 where
-  pub whole : Whole node_same node_hashed s.unique
-  pub cap : slots s ≤ 65520
-  pub good : Good 32 (nodes s)
-
--- the invariant as a fact that a ghost field can state: in ∥ ∥₁, since antt does not find by itself that it has one proof at most
-abbrev pub Ready : Store → Type 0
-Ready s = ∥ Standing s ∥₁
 
 -- the first k nodes are the cofactors of Fs that are not constant: each of them is one, and there is no other
 pub record Recorded (s : Store) (k : ℕ) (Fs : List (ℕ → ℕ)) : Type 0 where

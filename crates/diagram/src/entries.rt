@@ -1,18 +1,17 @@
 // The reader of drafts: the tape rules over a store, with codes as entries.
 ghost use Rattle.std.specs.Prelude.{◌≡◌};
-ghost use Rattle.diagram.specs.Entries.{store_model, refused};
+ghost use Rattle.diagram.specs.Entries.{store_model};
+ghost use Rattle.tape.specs.declared.refusal.Refusal.TheVariants.{NoSlot};
 ghost use Rattle.diagram.specs.Lasting.{store_lasts};
 
 use crate::store::{Full, Store};
 use tape::{Entries, Refusal};
 
-// The same answer, with the refusal that a reader gives.
-fn or_no_slot(made: Result<u16, Full>) -> Result<u16, Refusal>
-    ensures { result ≡ refused made }
-{
-    match made {
-        Ok(code) => Ok(code),
-        Err(_) => Err(Refusal::NoSlot),
+impl From<Full> for Refusal {
+    ghost from_gives = { λ _ refusal. refusal ≡ NoSlot };
+
+    fn from(_full: Full) -> Refusal {
+        Refusal::NoSlot
     }
 }
 
@@ -28,18 +27,18 @@ impl Entries for Store<'_> {
     }
 
     fn fact(&mut self, fact: u8) -> Result<u16, Refusal> {
-        or_no_slot(Store::fact(self, fact))
+        Ok(Store::fact(self, fact)?)
     }
 
     fn any(&mut self, mask: u32) -> Result<u16, Refusal> {
-        or_no_slot(Store::any(self, mask))
+        Ok(Store::any(self, mask)?)
     }
 
     fn all(&mut self, mask: u32) -> Result<u16, Refusal> {
-        or_no_slot(Store::all(self, mask))
+        Ok(Store::all(self, mask)?)
     }
 
     fn apply(&mut self, table: &[u8; 256], first: u16, second: u16) -> Result<u16, Refusal> {
-        or_no_slot(Store::apply(self, table, first, second))
+        Ok(Store::apply(self, table, first, second)?)
     }
 }

@@ -1,6 +1,6 @@
 // Decision diagrams in slots that a caller lends: shared, ordered and reduced, each node once.
 //
-// `store` has the nodes and what their codes mean, `build` how diagrams are built, `witness` the search for the first
+// `store` has the nodes, `codes` what their codes mean, `build` how diagrams are built, `witness` the search for the first
 // request that breaks a question, and `entries` the tape rules over a store.
 #![tactic(auto)]
 
@@ -8,6 +8,7 @@ ghost use Rattle.diagram.specs.Law.{Law};
 ghost use Rattle.diagram.specs.StoreLaw.{StoreLaw};
 
 mod build;
+mod codes;
 mod entries;
 mod store;
 mod witness;

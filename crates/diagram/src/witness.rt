@@ -1,14 +1,13 @@
 // The first request at which two diagrams break a question.
 ghost use Rattle.std.specs.Prelude.{◌≡◌, ℕ, ◌+◌, ◌<◌, ◌≤◌, length, replicate};
-ghost use Rattle.probing.specs.Kinds.{pair_same, pair_hashed};
-ghost use Rattle.probing.specs.Model.{Whole, keys};
+ghost use Rattle.probing.specs.Model.{keys};
 ghost use Rattle.probing.specs.Table.{free};
 ghost use Rattle.diagram.specs.Counted.{Same, Ignores};
 ghost use Rattle.diagram.specs.Requests.{Witness};
 ghost use Rattle.diagram.specs.Tree.{says, Neat};
 ghost use Rattle.diagram.specs.Nodes.{meant};
 ghost use Rattle.diagram.specs.Questions.{asks, Breaks, WitnessFrom, Searched};
-ghost use Rattle.diagram.specs.Stores.{nodes, held, meaning, Standing, Ready};
+ghost use Rattle.diagram.specs.Stores.{nodes, held, meaning};
 
 use crate::store::Store;
 use probing::Slot;
@@ -16,18 +15,13 @@ use probing::guard::Guard;
 use probing::pair::Pair;
 use probing::table::Table;
 
-// A pair for slots that hold none.
-const NO_PAIR: Pair = Pair {
-    first: 0,
-    second: 0,
-};
-
 // The most slots of a scratch that are used: a serial of sixteen bits leads to no more.
 const MOST_PAIRS: usize = 65535;
 
 // Whether a question's table says that a pair of codes breaks it.
 fn breaks(question: &[bool; 256], first: u16, second: u16) -> bool
-    requires { (first < 16) × (second < 16) }
+    requires first { first < 16 }
+    requires second { second < 16 }
     ensures { result ≡ asks question.now first second }
 {
     question[first as usize * 16 + second as usize]
@@ -44,23 +38,20 @@ impl Store<'_> {
         from: u8,
         seen: &mut Table<Pair>,
     ) -> Option<u32>
-        requires stands { Standing self.now }
-        requires below { (first < 16 + held self.now) × (second < 16 + held self.now) × (from ≤ 32) }
-        requires later { Neat 32 from (meant (nodes self.now) first) × Neat 32 from (meant (nodes self.now) second) }
-        requires whole { Whole pair_same pair_hashed seen.old }
+        requires first_below { first < 16 + held self.now }
+        requires second_below { second < 16 + held self.now }
+        requires from_below { from ≤ 32 }
+        requires first_later { Neat 32 from (meant (nodes self.now) first) }
+        requires second_later { Neat 32 from (meant (nodes self.now) second) }
         requires searched { Searched 32 question.now (nodes self.now) (keys seen.old) }
         ensures searched { Searched 32 question.now (nodes self.now) (keys seen.new) }
-        ensures whole { Whole pair_same pair_hashed seen.new }
         ensures finds { WitnessFrom 32 from (Breaks question.now (says (meant (nodes self.now) first)) (says (meant (nodes self.now) second))) result }
     {
         if first < 16 && second < 16 {
-            if breaks(question, first, second) {
-                return Some(0);
-            }
-            return None;
+            return breaks(question, first, second).then_some(0);
         }
         let pair = Pair { first, second };
-        if let Some(_number) = seen.find(&pair) {
+        if seen.find(&pair).is_some() {
             return None;
         }
         let sides = self.split(first, second);
@@ -95,17 +86,16 @@ impl Store<'_> {
         second: u16,
         scratch: &mut [Slot<Pair>],
     ) -> Option<u32>
-        requires { Ready self.now }
         ensures first { Witness 32 (Breaks question.now (meaning self.now first) (meaning self.now second)) result }
         ensures facts { (n : ℕ) (F G : ℕ → ℕ) → n ≤ 32 → Ignores n F → Ignores n G → Same 32 (meaning self.now first) F → Same 32 (meaning self.now second) G → Witness n (Breaks question.now F G) result }
         ensures blank { scratch.new ≡ replicate (length scratch.old) (free (record { first = 0; second = 0 })) }
     {
         let guard = Guard {
             slots: scratch,
-            blank: NO_PAIR,
+            blank: Pair::default(),
         };
         let used = guard.slots.len().min(MOST_PAIRS);
-        let mut seen = Table::new(&mut guard.slots[0..used], NO_PAIR);
+        let mut seen = Table::new(&mut guard.slots[0..used], Pair::default());
         let a = self.known(first);
         let b = self.known(second);
         self.search(question, a, b, 0, &mut seen)

@@ -1,6 +1,5 @@
 // What diagrams do on examples.
 ghost use Rattle.std.specs.Prelude.{◌≤◌};
-ghost use Rattle.diagram.specs.Stores.{Ready};
 
 use diagram::{Full, Store};
 use effects::{EffectTables, FourEffect, effect_tables, question_tables};
@@ -30,8 +29,7 @@ const USED: Slot<Pair> = Slot {
 
 // Runs a whole tape over a store: the top entry then, or the number of the refusal.
 fn load(store: &mut Store, tables: &EffectTables, facts: u8, tape: &[u8]) -> Result<u16, u8>
-    requires { (Ready store.old) × (facts ≤ 32) }
-    ensures { Ready store.new }
+    requires { facts ≤ 32 }
 {
     let mut stack = Stack::empty(0u16);
     let mut place = 0;

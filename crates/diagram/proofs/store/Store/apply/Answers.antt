@@ -1,75 +1,64 @@
-use Rattle.std.proofs.Common.{◌≡◌, ℕ, ap, ◌∙◌, arith}
+use Rattle.std.proofs.Common.{◌≡◌, ℕ, ◌+◌, ◌<◌, take, sym, ap, ◌∙◌, arith}
 use Rattle.effects.specs.Cells.{cell}
 use Rattle.diagram.specs.Tree.{says, applied}
 use Rattle.diagram.specs.Nodes.{meant}
 use Rattle.diagram.specs.Counted.{Same}
-use Rattle.diagram.specs.Stores.{nodes, meaning, Unchanged}
+use Rattle.diagram.specs.Stores.{nodes, held, meaning}
 use Rattle.diagram.specs.declared.store.Store.{Store}
 use Rattle.diagram.proofs.Applied.{applied_neat, applied_says}
 use Rattle.diagram.proofs.Nodes.{tree_neat}
-use Rattle.diagram.proofs.Records.{opened, standing_after}
-use Rattle.diagram.proofs.Recording.{taken, too_many, later_from, later_unchanged, standing_unchanged, rolled_back}
+use Rattle.diagram.proofs.Records.{good}
+use Rattle.diagram.proofs.Recording.{built, undone, later_built, later_undone}
 use Rattle.diagram.proofs.store.Store.apply.Goals as goal
 
 -- a code that was settled means what it meant
 still : (s : Store) (a c : ℕ) (f : ℕ → ℕ) → meant (nodes s) a ≡ meant (nodes s) c → Same 32 (meaning s c) f → Same 32 (says (meant (nodes s) a)) f
 still s a c f e h r b = ap (λ t. says t r) e ∙ h r b
 
-pub known-a-requires : goal.known-a-requires
-known-a-requires c = opened c.args.self.now c.requires.ready
-
-pub known-b-requires : goal.known-b-requires
-known-b-requires c = opened c.args.self.now c.requires.ready
-
-pub count-before-requires : goal.count-before-requires
-count-before-requires c = (opened c.args.self.now c.requires.ready).whole
-
-pub combine-requires : goal.combine-requires
-combine-requires c =
+pub combine-made-requires : goal.combine-made-requires
+combine-made-requires c =
     let s = c.args.self.now in
-    let st = opened s c.requires.ready in
     record {
-      stands = st;
       small = c.requires.small;
-      below = (c.known-a.ensures.within, c.known-b.ensures.within, omega arith);
-      later = (tree_neat 32 (nodes s) st.good c.known-a.result c.known-a.ensures.within, tree_neat 32 (nodes s) st.good c.known-b.result c.known-b.ensures.within);
+      first_below = c.known-a.ensures.within;
+      second_below = c.known-b.ensures.within;
+      from_below = omega arith;
+      first_later = tree_neat 32 (nodes s) (good s) c.known-a.result c.known-a.ensures.within;
+      second_later = tree_neat 32 (nodes s) (good s) c.known-b.result c.known-b.ensures.within;
     }
 
-pub returns-in-Ok : goal.returns-in-Ok
-returns-in-Ok c =
+-- what the two codes mean together, whatever they mean
+of_both : (s : Store) (op : ℕ → ℕ → ℕ) (a b first second : ℕ) → a < 16 + held s → b < 16 + held s → meant (nodes s) a ≡ meant (nodes s) first → meant (nodes s) b ≡ meant (nodes s) second
+    → (f g : ℕ → ℕ) → Same 32 (meaning s first) f → Same 32 (meaning s second) g → Same 32 (says (applied op 32 0 (meant (nodes s) a) (meant (nodes s) b))) (λ q. op (f q) (g q))
+of_both s op a b first second ha hb ea eb f g ef eg =
+    applied_says op 32 (meant (nodes s) a) (meant (nodes s) b) (tree_neat 32 (nodes s) (good s) a ha) (tree_neat 32 (nodes s) (good s) b hb) f g (still s a first f ea ef) (still s b second g eb eg)
+
+pub returns-then-is_err : goal.returns-then-is_err
+returns-then-is_err c =
     let s = c.args.self.now in
-    let t = c.combine.new.self in
-    let st = opened s c.requires.ready in
     let op = cell c.args.table.now in
     let A = meant (nodes s) c.known-a.result in
     let B = meant (nodes s) c.known-b.result in
-    let wa = tree_neat 32 (nodes s) st.good c.known-a.result c.known-a.ensures.within in
-    let wb = tree_neat 32 (nodes s) st.good c.known-b.result c.known-b.ensures.within in
-    let m = c.in-Ok.ensures.gives in
+    let w = c.roll_back.ensures.width ∙ c.combine-made.ensures.width in
+    let q = c.roll_back.ensures.listed ∙ ap (λ n. take n (nodes c.combine-made.new.self)) c.count-before.ensures.number in
+    let o = sym c.is_err.ensures.value ∙ c.if-is_err.true in
     record {
-      ready = ∣ standing_after s t st c.combine.ensures.whole c.combine.ensures.width m.good ∣₁;
-      later = later_from s t c.combine.ensures.width m.begins;
-      gives = λ f g ef eg. taken s t st (λ q. op (f q) (g q)) (applied op 32 0 A B) (applied_neat op 32 32 0 (omega arith) A B)
-          (applied_says op 32 A B wa wb f g (still s c.known-a.result c.args.first f c.known-a.ensures.means ef) (still s c.known-b.result c.args.second g c.known-b.ensures.means eg))
-          c.combine.ensures.width c.in-Ok.code m;
+      later = later_undone s _ (nodes c.combine-made.new.self) _ _ w q c.combine-made.result o c.combine-made.ensures.gives;
+      gives = λ f g ef eg. undone s _ (λ q. op (f q) (g q)) (applied op 32 0 A B) (applied_neat op 32 32 0 (omega arith) A B)
+          (of_both s op c.known-a.result c.known-b.result c.args.first c.args.second c.known-a.ensures.within c.known-b.ensures.within c.known-a.ensures.means c.known-b.ensures.means f g ef eg)
+          (nodes c.combine-made.new.self) w q c.combine-made.result o c.combine-made.ensures.gives;
     }
 
-pub returns-in-Err : goal.returns-in-Err
-returns-in-Err c =
+pub returns-else-is_err : goal.returns-else-is_err
+returns-else-is_err c =
     let s = c.args.self.now in
-    let t : Store = record { unique = c.roll_back.new.self } in
-    let st = opened s c.requires.ready in
     let op = cell c.args.table.now in
     let A = meant (nodes s) c.known-a.result in
     let B = meant (nodes s) c.known-b.result in
-    let wa = tree_neat 32 (nodes s) st.good c.known-a.result c.known-a.ensures.within in
-    let wb = tree_neat 32 (nodes s) st.good c.known-b.result c.known-b.ensures.within in
-    let m = c.in-Err.ensures.gives in
-    let u : Unchanged s t = rolled_back s t (nodes c.combine.new.self) c.count-before.result (c.roll_back.ensures.width ∙ c.combine.ensures.width) m.begins c.count-before.ensures.number c.roll_back.ensures.listed in
+    let o = sym c.is_err.ensures.value ∙ c.if-is_err.false in
     record {
-      ready = ∣ standing_unchanged s t st u c.roll_back.ensures.sound ∣₁;
-      later = later_unchanged s t u;
-      gives = λ f g ef eg. too_many s t st (λ q. op (f q) (g q)) (applied op 32 0 A B) (applied_neat op 32 32 0 (omega arith) A B)
-          (applied_says op 32 A B wa wb f g (still s c.known-a.result c.args.first f c.known-a.ensures.means ef) (still s c.known-b.result c.args.second g c.known-b.ensures.means eg))
-          (nodes c.combine.new.self) m u;
+      later = later_built s c.combine-made.new.self _ _ c.combine-made.ensures.width c.combine-made.result o c.combine-made.ensures.gives;
+      gives = λ f g ef eg. built s c.combine-made.new.self (λ q. op (f q) (g q)) (applied op 32 0 A B) (applied_neat op 32 32 0 (omega arith) A B)
+          (of_both s op c.known-a.result c.known-b.result c.args.first c.args.second c.known-a.ensures.within c.known-b.ensures.within c.known-a.ensures.means c.known-b.ensures.means f g ef eg)
+          c.combine-made.ensures.width c.combine-made.result o c.combine-made.ensures.gives;
     }

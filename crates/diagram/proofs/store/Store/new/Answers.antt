@@ -1,18 +1,24 @@
-use Rattle.std.proofs.Common.{length, sym, ap, subst, arith}
-use Rattle.diagram.specs.Nodes.{Good}
+use Rattle.std.proofs.Common.{◌≡◌, length, replicate, sym, ap, ◌∙◌, subst, arith}
+use Rattle.probing.specs.Table.{free}
+use Rattle.probing.specs.declared.node.Node.{Node}
+use Rattle.diagram.specs.Nodes.{no_node, Good}
 use Rattle.diagram.proofs.Nodes.{good_none}
 use Rattle.diagram.proofs.Recording.{recorded_none}
 use Rattle.diagram.proofs.store.Store.new.Goals as goal
 
+zero_node : (x : Node) → (x.fact ≡ 0) × ((x.low ≡ 0) × (x.high ≡ 0)) → x ≡ no_node
+zero_node x e = λ i. record { fact = e.0 i; low = e.1.0 i; high = e.1.1 i }
+
+pub invariant_of-result : goal.invariant_of-result
+invariant_of-result c = record {
+  cap = omega (arith, c.new.ensures.width, c.requires);
+  good = ∣ subst (Good 32) (sym c.new.ensures.listed) (good_none 32) ∣₁;
+}
+
 pub returns : goal.returns
 returns c = record {
-  ready = ∣ record {
-    whole = c.new.ensures.sound;
-    cap = omega (arith, c.new.ensures.width, c.requires);
-    good = subst (Good 32) (sym c.new.ensures.listed) (good_none 32);
-  } ∣₁;
   bare = ap length c.new.ensures.listed;
   width = c.new.ensures.width;
-  recorded = recorded_none (record { unique = c.new.result }) c.new.ensures.listed;
-  blank = c.new.ensures.blank;
+  recorded = recorded_none _ c.new.ensures.listed;
+  blank = c.new.ensures.blank ∙ ap (λ x. replicate (length c.args.slots.now) (free x)) (zero_node c.default.result c.default.ensures);
 }

@@ -5,15 +5,9 @@ use Rattle.diagram.specs.Tree.{says}
 use Rattle.diagram.proofs.Fixing.{same_less, same_more}
 use Rattle.diagram.specs.Nodes.{meant}
 use Rattle.diagram.specs.Stores.{nodes, meaning}
-use Rattle.diagram.proofs.Records.{opened}
 use Rattle.diagram.proofs.Nodes.{code_inj}
+use Rattle.diagram.proofs.Records.{good}
 use Rattle.diagram.proofs.store.Store.same_function.Goals as goal
-
-pub known-requires : goal.known-requires
-known-requires c = opened c.args.self.now c.requires
-
-pub known-requires-2 : goal.known-requires-2
-known-requires-2 c = opened c.args.self.now c.requires
 
 pub returns : goal.returns
 returns c =
@@ -24,7 +18,7 @@ returns c =
     let F = meaning s c.args.first in
     let G = meaning s c.args.second in
     let there : eqb a b ≡ true → Same 32 F G = λ e r _. ap (λ t. says t r) (sym c.known.ensures.means ∙ ap (meant xs) (eqb-true a b e) ∙ c.known-2.ensures.means) in
-    let back : Same 32 F G → eqb a b ≡ true = λ e. eq-eqb a b (code_inj 32 xs (opened s c.requires).good a b c.known.ensures.within c.known-2.ensures.within
+    let back : Same 32 F G → eqb a b ≡ true = λ e. eq-eqb a b (code_inj 32 xs (good s) a b c.known.ensures.within c.known-2.ensures.within
     (λ r h. ap (λ t. says t r) c.known.ensures.means ∙ e r h ∙ sym (ap (λ t. says t r) c.known-2.ensures.means))) in
     record {
       same = (there, back);

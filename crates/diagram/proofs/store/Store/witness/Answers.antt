@@ -5,25 +5,19 @@ use Rattle.diagram.specs.Requests.{Witness}
 use Rattle.diagram.specs.Questions.{Breaks, Searched}
 use Rattle.diagram.specs.Stores.{nodes}
 use Rattle.diagram.proofs.Nodes.{tree_neat}
-use Rattle.diagram.proofs.Records.{opened}
 use Rattle.diagram.proofs.First.{first_all, first_facts, first_same}
+use Rattle.diagram.proofs.Records.{good}
 use Rattle.diagram.proofs.store.Store.witness.Goals as goal
-
-pub known-a-requires : goal.known-a-requires
-known-a-requires c = opened c.args.self.now c.requires
-
-pub known-b-requires : goal.known-b-requires
-known-b-requires c = opened c.args.self.now c.requires
 
 pub search-requires : goal.search-requires
 search-requires c =
     let s = c.args.self.now in
-    let st = opened s c.requires in
     record {
-      stands = st;
-      below = (c.known-a.ensures.within, c.known-b.ensures.within, omega arith);
-      later = (tree_neat 32 (nodes s) st.good c.known-a.result c.known-a.ensures.within, tree_neat 32 (nodes s) st.good c.known-b.result c.known-b.ensures.within);
-      whole = c.new-seen.ensures.sound;
+      first_below = c.known-a.ensures.within;
+      second_below = c.known-b.ensures.within;
+      from_below = omega arith;
+      first_later = tree_neat 32 (nodes s) (good s) c.known-a.result c.known-a.ensures.within;
+      second_later = tree_neat 32 (nodes s) (good s) c.known-b.result c.known-b.ensures.within;
       searched = subst (Searched 32 c.args.question.now (nodes s)) (sym c.new-seen.ensures.listed) tt;
     }
 
