@@ -2,6 +2,8 @@
 use Rattle.std.specs.Prelude.{ℕ, Bool, List, length, take}
 use Rattle.std.specs.declared.cmp.PartialEq.{Ghosts as Sameness}
 use Rattle.probing.specs.declared.Key.{Ghosts as Hashing}
+use Rattle.probing.specs.Kinds.{name_same, name_hashed}
+use Rattle.probing.specs.declared.name.Name.{Name}
 use Rattle.probing.specs.declared.table.Table.{Table}
 use Rattle.probing.specs.Table.{stored}
 
@@ -16,3 +18,7 @@ keys t = take t.count (kept t)
 -- how many slots there are
 abbrev pub room : {K : Type 0} {hash : Hashing K} {same : Sameness K} → Table K hash same → ℕ
 room t = length t.slots.now
+
+-- a table of names: two are the same where their texts are
+abbrev pub NameTable : Type 0
+NameTable = Table Name (record { hashed = name_hashed }) (record { eq = name_same })

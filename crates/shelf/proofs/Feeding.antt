@@ -12,11 +12,10 @@ use Rattle.tape.proofs.Stepping.{Passed, passed, next_ok, next_err}
 use Rattle.diagram.specs.Cofactors.{count}
 use Rattle.diagram.specs.Counted.{Same, Ignores, Exists, Each}
 use Rattle.diagram.specs.Entries.{store_model}
-use Rattle.diagram.specs.Stores.{held, full, Ready, Recorded}
+use Rattle.diagram.specs.Stores.{held, full, Recorded}
 use Rattle.diagram.specs.declared.store.Store.{Store}
 use Rattle.diagram.proofs.CountLaws.{within_in}
 use Rattle.diagram.proofs.Elements.{each_append, some_left, some_right}
-use Rattle.diagram.proofs.Records.{opened}
 use Rattle.diagram.proofs.Recording.{full_count, later_unchanged, recorded_same}
 use Rattle.shelf.specs.Catalogue.{results}
 use Rattle.shelf.specs.Calls.{slot_tests}
@@ -43,7 +42,7 @@ module _ (K : Codes) (n : ℕ) (few : n ≤ 32) (Fs : List (ℕ → ℕ)) (row :
   -- so there is no slot for it exactly when the count says so
   full_is : (x : Command) → undeclared n x ≡ false → full s (λ q. result K (row ++ x ∷ []) q) ≡ ltb many (count n ((Fs ++ results K row) ++ (λ q. result K (row ++ x ∷ []) q) ∷ []))
   full_is x u =
-      full_count s (opened s st.ready) n (Fs ++ results K row) (λ q. result K (row ++ x ∷ []) q) st.recorded few (keeps_more x u)
+      full_count s n (Fs ++ results K row) (λ q. result K (row ++ x ∷ []) q) st.recorded few (keeps_more x u)
       ∙ ap (λ k. ltb k (count n ((Fs ++ results K row) ++ (λ q. result K (row ++ x ∷ []) q) ∷ []))) (sym st.slots_are)
 
   -- the next command as the store reads it is the next command as the catalogue says
@@ -75,8 +74,8 @@ module _ (K : Codes) (n : ℕ) (few : n ≤ 32) (Fs : List (ℕ → ℕ)) (row :
           passed K n (ended row) (kinds row) bs d (p ∙ ap (λ y. Ok y) q)
 
   -- what the store records after it
-  pub storing_more : (t : Store) → Ready t → (d : Command × ℕ) → next_command K n (slot_tests K many n (Fs ++ results K row) row) row bs ≡ Ok d → Moved store_model K row s t (Ok d) → Storing t many n (Fs ++ results K (row ++ d.0 ∷ []))
-  storing_more t r d e m =
+  pub storing_more : (t : Store) (d : Command × ℕ) → next_command K n (slot_tests K many n (Fs ++ results K row) row) row bs ≡ Ok d → Moved store_model K row s t (Ok d) → Storing t many n (Fs ++ results K (row ++ d.0 ∷ []))
+  storing_more t d e m =
       let a = accepted d e in
       let x = d.0 in
       subst (Storing t many n) (sym (ap (λ Hs. Fs ++ Hs) (results_more K row x))) (subst (Storing t many n) (append_assoc Fs (results K row) ((λ q. result K (row ++ x ∷ []) q) ∷ [])) (by (is_end x) refl a))
@@ -89,13 +88,11 @@ module _ (K : Codes) (n : ℕ) (few : n ≤ 32) (Fs : List (ℕ → ℕ)) (row :
 
       by : (b : Bool) → is_end d.0 ≡ b → Passed K (kinds row) d.0 × (undeclared n d.0 ≡ false) × (ended row ≡ false) → Storing t many n ((Fs ++ results K row) ++ F ∷ [])
       by false p a = record {
-        ready = r;
         slots_are = st.slots_are ∙ sym (at false p).later.slots;
         recorded = (at false p).recorded (Fs ++ results K row) st.recorded;
         keeps = keeps_more d.0 a.1;
       }
       by true p a = record {
-        ready = r;
         slots_are = st.slots_are ∙ sym (at true p).slots;
         recorded = recorded_again t (held t) (Fs ++ results K row) F
             (some_right (λ G. Same 32 F G) Fs (results K row) (subst (λ (H : ℕ → ℕ). Exists (λ G. Same 32 H G) (results K row)) (sym (fun_ext (λ q. end_result K row d.0 p q))) (last_result K 32 row (a.0.alone p))))

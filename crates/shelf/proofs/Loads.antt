@@ -4,8 +4,8 @@ use Rattle.std.proofs.lemmas.Bool.{cond-true, cond-false, false≢true}
 use Rattle.effects.specs.Codes.{Codes, QuestionCodes}
 use Rattle.effects.specs.declared.tables.EffectTables.{EffectTables}
 use Rattle.effects.specs.declared.tables.QuestionTables.{QuestionTables}
+use Rattle.probing.specs.Model.{NameTable}
 use Rattle.probing.specs.declared.name.Name.{Name}
-use Rattle.probing.specs.declared.table.Table.{Table}
 use Rattle.tape.specs.Entries.{Stepped, down}
 use Rattle.tape.specs.Refusals.{at_place}
 use Rattle.tape.specs.Tape.{Row, Tests}
@@ -17,7 +17,7 @@ use Rattle.tape.specs.declared.stack.Stack.{Stack}
 use Rattle.tape.proofs.Reading.{Reading, reading_start, reading_more, reading_refused, reading_end}
 use Rattle.diagram.specs.Counted.{Each, Ignores}
 use Rattle.diagram.specs.Entries.{store_model}
-use Rattle.diagram.specs.Stores.{slots, Ready, Later, Unchanged}
+use Rattle.diagram.specs.Stores.{slots, Later, Unchanged}
 use Rattle.diagram.specs.declared.store.Store.{Store}
 use Rattle.shelf.specs.Catalogue.{Catalogue, facts, results, all_results, filing}
 use Rattle.shelf.specs.Calls.{slot_tests}
@@ -49,14 +49,14 @@ module _ (K : Codes) (n : ℕ) (few : n ≤ 32) (many : ℕ) (Fs : List (ℕ →
     fed = fed_none K n;
   })
 
-  pub read_more : (s t : Store) (st su : Stack ℕ) (place c : ℕ) (rd : ReadTo s st place) → Ready t → place < length tape → 0 < c → c ≤ length (drop place tape) → Stepped store_model K n rd.row (drop place tape) s t su (Ok c) → ReadTo t su (place + c)
-  read_more s t st su place c rd r lt pos le sd =
+  pub read_more : (s t : Store) (st su : Stack ℕ) (place c : ℕ) (rd : ReadTo s st place) → place < length tape → 0 < c → c ≤ length (drop place tape) → Stepped store_model K n rd.row (drop place tape) s t su (Ok c) → ReadTo t su (place + c)
+  read_more s t st su place c rd lt pos le sd =
       let row = rd.row in
       let bs = drop place tape in
       let own = own_is K n few Fs row bs s many rd.also.storing rd.also.fed in
       reading_more store_model (Also K n many Fs) tests K n tape s t st su place c rd lt pos le (λ d e. sym own ∙ e)
       (λ d e h m. record {
-        storing = storing_more K n few Fs row bs s many rd.also.storing rd.also.fed t r d (sym own ∙ e) m;
+        storing = storing_more K n few Fs row bs s many rd.also.storing rd.also.fed t d (sym own ∙ e) m;
         fed = fed_next K n few Fs row bs s many rd.also.storing rd.also.fed d t su (sym own ∙ e) h;
       }) sd
 
@@ -72,16 +72,16 @@ module _ (K : Codes) (n : ℕ) (few : n ≤ 32) (many : ℕ) (Fs : List (ℕ →
       (rd.row, (reading_end store_model (Also K n many Fs) tests K n tape s st place rd le ∙ cond-true _ _ _ e, record { storing = rd.also.storing; holds = rd.holds; fed = rd.also.fed; ends = sym rd.holds.over ∙ e }))
 
 -- the store of a shelf, before a load
-module _ {K : Codes} {Q : QuestionCodes} {names : Table Name} {store : Store} {tables : EffectTables} {questions : QuestionTables} {stack : Stack ℕ} {state : State} {c : Catalogue} (u : Upholds K Q names store tables questions stack state c) (n : ℕ) (facts-n : n ≡ facts c) where
+module _ {K : Codes} {Q : QuestionCodes} {names : NameTable} {store : Store} {tables : EffectTables} {questions : QuestionTables} {stack : Stack ℕ} {state : State} {c : Catalogue} (u : Upholds K Q names store tables questions stack state c) (n : ℕ) (facts-n : n ≡ facts c) where
   pub storing_all : Storing store (slots store) n (all_results K c)
-  storing_all = record { ready = u.storing.ready; slots_are = refl; recorded = u.storing.recorded; keeps = subst (λ m. Each (Ignores m) (all_results K c)) (sym facts-n) u.storing.keeps }
+  storing_all = record { slots_are = refl; recorded = u.storing.recorded; keeps = subst (λ m. Each (Ignores m) (all_results K c)) (sym facts-n) u.storing.keeps }
 
   pub row_is : (tape : List ℕ) (v : Result Row RefusedAt) → read_row K n (slots store) (all_results K c) tape ≡ v → read_row K (facts c) c.making.slots (all_results K c) tape ≡ v
   row_is tape v e = ap (λ m. read_row K (facts c) m (all_results K c) tape) u.storing.slots_are ∙ ap (λ m. read_row K m (slots store) (all_results K c) tape) (sym facts-n) ∙ e
 
   -- a load that is undone
-  pub undone : (store' : Store) → state.drafting ≡ false → Ready store' → Unchanged store store' → Upholds K Q names store' tables questions stack state c
-  undone store' none r w = unmoved u store' stack r w (λ e. absurd (false≢true (sym none ∙ e)))
+  pub undone : (store' : Store) → state.drafting ≡ false → Unchanged store store' → Upholds K Q names store' tables questions stack state c
+  undone store' none w = unmoved u store' stack w (λ e. absurd (false≢true (sym none ∙ e)))
 
   -- a load that is filed
   pub filed_row : (store' : Store) (stack' : Stack ℕ) (row : Row) (root : ℕ) → Later store store' → state.drafting ≡ false → state.filed < 64 → Loaded K n (slots store) (all_results K c) store' stack' row → root ≡ get_or (down 0 stack'.entries stack'.outline.depth) 0 0 → Upholds K Q names store' tables questions stack (filed_state state root) (filing c row)

@@ -8,7 +8,6 @@ use Rattle.tape.specs.declared.refusal.Refusal.{Refusal}
 use Rattle.diagram.specs.Requests.{Witness}
 use Rattle.diagram.specs.Stores.{Means, meaning}
 use Rattle.diagram.proofs.Recording.{one_code}
-use Rattle.diagram.proofs.Records.{opened}
 use Rattle.shelf.specs.Catalogue.{Catalogue, facts, policies, row_of}
 use Rattle.shelf.specs.Calls.{ask_answer, shape_answer, compare_tests, Outcome, BreaksAt}
 use Rattle.shelf.specs.Stands.{Stands, numbering, Moved}
@@ -48,7 +47,7 @@ module _ {E : Type 0} (M : Effects E) (Q : Questions E) (L : LawfulEffects M) wh
 
     same_numbers : (p q : ℕ) → p < policies c → q < policies c → Alike M Q c p q → numbering s p ≡ numbering s q
     same_numbers p q hp hq a =
-        one_code s.store (opened s.store u.storing.ready) (facts c) _ _ _ _ (few_facts s u) (policy_keeps s u p hp) (policy_keeps s u q hq) (means_policy p hp) (means_policy q hq)
+        one_code s.store (facts c) _ _ _ _ (few_facts s u) (policy_keeps s u p hp) (policy_keeps s u q hq) (means_policy p hp) (means_policy q hq)
         (λ r hr. sym (coded p r hp) ∙ ap M.code (a r hr) ∙ coded q r hq)
 
     pub moment : Moment M Q s c

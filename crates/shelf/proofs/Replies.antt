@@ -4,8 +4,8 @@ use Rattle.std.proofs.lemmas.Bool.{cond-true, cond-false, and_parts, lt-leb, leb
 use Rattle.effects.specs.Codes.{Codes, QuestionCodes}
 use Rattle.effects.specs.declared.tables.EffectTables.{EffectTables}
 use Rattle.effects.specs.declared.tables.QuestionTables.{QuestionTables}
+use Rattle.probing.specs.Model.{NameTable}
 use Rattle.probing.specs.declared.name.Name.{Name}
-use Rattle.probing.specs.declared.table.Table.{Table}
 use Rattle.tape.specs.Refusals.{at_place}
 use Rattle.tape.specs.Tape.{Row, Tests, first_of, opening as at_opening, next_command, bytes_taken, ended}
 use Rattle.tape.specs.declared.command.Command.{Command}
@@ -87,7 +87,7 @@ abbrev pub on_ok : {A E : Type 0} → Catalogue → (A → Catalogue) → Result
 on_ok c f (Ok a) = f a
 on_ok c f (Err e) = c
 
-module _ {K : Codes} {Q : QuestionCodes} {names : Table Name} {store : Store} {tables : EffectTables} {questions : QuestionTables} {stack : Stack ℕ} {state : State} {c : Catalogue} (u : Upholds K Q names store tables questions stack state c) where
+module _ {K : Codes} {Q : QuestionCodes} {names : NameTable} {store : Store} {tables : EffectTables} {questions : QuestionTables} {stack : Stack ℕ} {state : State} {c : Catalogue} (u : Upholds K Q names store tables questions stack state c) where
   -- opening
   pub may_open : first_of (opening_tests c) (tt {0}) ≡ Ok tt → (state.drafting ≡ false) × (state.filed < 64)
   may_open h = let t = two_false (is_open c) (leb 64 (policies c)) DraftOpen AllFiled h in (sym u.drafting_is ∙ t.0, subst (λ n. n < 64) u.filing.are (leb-false 64 (policies c) t.1))

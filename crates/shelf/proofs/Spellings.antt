@@ -4,11 +4,10 @@ use Rattle.std.proofs.lemmas.Bool.{cond-true, cond-false, le-leb, lt-leb, cases_
 use Rattle.effects.specs.Codes.{Codes, QuestionCodes}
 use Rattle.effects.specs.declared.tables.EffectTables.{EffectTables}
 use Rattle.effects.specs.declared.tables.QuestionTables.{QuestionTables}
-use Rattle.probing.specs.Kinds.{text, name_same, name_hashed}
-use Rattle.probing.specs.Model.{Whole, keys, room}
+use Rattle.probing.specs.Kinds.{text, name_same}
+use Rattle.probing.specs.Model.{NameTable, keys, room}
 use Rattle.probing.specs.Table.{number_of, numbered, grown}
 use Rattle.probing.specs.declared.name.Name.{Name}
-use Rattle.probing.specs.declared.table.Table.{Table}
 use Rattle.tape.specs.Tape.{first_of}
 use Rattle.tape.specs.declared.refusal.Refusal.{Refusal}
 use Rattle.tape.specs.declared.refusal.Refusal.TheVariants.{BadName, NamesFull}
@@ -73,20 +72,20 @@ some_none i e = let z : ◌≡◌ {A = ℕ} 0 1 = cc in omega arith
 some_same : (i j : ℕ) → ◌≡◌ {A = Option ℕ} (Some i) (Some j) → i ≡ j
 some_same i j e = cc
 
-module _ {K : Codes} {Q : QuestionCodes} {names : Table Name} {store : Store} {tables : EffectTables} {questions : QuestionTables} {stack : Stack ℕ} {state : State} {c : Catalogue} (u : Upholds K Q names store tables questions stack state c) (n : Name) where
+module _ {K : Codes} {Q : QuestionCodes} {names : NameTable} {store : Store} {tables : EffectTables} {questions : QuestionTables} {stack : Stack ℕ} {state : State} {c : Catalogue} (u : Upholds K Q names store tables questions stack state c) (n : Name) where
   pub number_agrees : number_of_name c n ≡ number_of name_same n (keys names)
   number_agrees = ap (number_of same_name (text n)) u.naming.are ∙ number_is n 0 (keys names)
 
   -- a new name, inserted
-  pub fits : (names' : Table Name) → number_of name_same n (keys names) ≡ None → length (keys names) < room names → Whole name_same name_hashed names' → room names' ≡ room names → keys names' ≡ grown name_same n (room names) (keys names) → Upholds K Q names' store tables questions stack state (naming c (text n))
-  fits names' o h w r k = declared u names' n w r (k ∙ (at_new name_same n (room names) (keys names) o h).1)
+  pub fits : (names' : NameTable) → number_of name_same n (keys names) ≡ None → length (keys names) < room names → room names' ≡ room names → keys names' ≡ grown name_same n (room names) (keys names) → Upholds K Q names' store tables questions stack state (naming c (text n))
+  fits names' o h r k = declared u names' n r (k ∙ (at_new name_same n (room names) (keys names) o h).1)
 
-  pub refused : (names' : Table Name) → number_of name_same n (keys names) ≡ None → room names ≤ length (keys names) → Whole name_same name_hashed names' → room names' ≡ room names → keys names' ≡ grown name_same n (room names) (keys names) → Upholds K Q names' store tables questions stack state c
-  refused names' o h w r k = renamed u names' w r (k ∙ (at_refused name_same n (room names) (keys names) o h).1)
+  pub refused : (names' : NameTable) → number_of name_same n (keys names) ≡ None → room names ≤ length (keys names) → room names' ≡ room names → keys names' ≡ grown name_same n (room names) (keys names) → Upholds K Q names' store tables questions stack state c
+  refused names' o h r k = renamed u names' r (k ∙ (at_refused name_same n (room names) (keys names) o h).1)
 
   -- or not
-  pub inserted : (names' : Table Name) → number_of name_same n (keys names) ≡ None → Whole name_same name_hashed names' → room names' ≡ room names → keys names' ≡ grown name_same n (room names) (keys names) → (d : Catalogue) × Upholds K Q names' store tables questions stack state d
-  inserted names' o w r k = ⊎_elim (λ h. (naming c (text n), fits names' o h w r k)) (λ h. (c, refused names' o h w r k)) (cases_lt (length (keys names)) (room names))
+  pub inserted : (names' : NameTable) → number_of name_same n (keys names) ≡ None → room names' ≡ room names → keys names' ≡ grown name_same n (room names) (keys names) → (d : Catalogue) × Upholds K Q names' store tables questions stack state d
+  inserted names' o r k = ⊎_elim (λ h. (naming c (text n), fits names' o h r k)) (λ h. (c, refused names' o h r k)) (cases_lt (length (keys names)) (room names))
 
   pub took : (i : ℕ) → number_of name_same n (keys names) ≡ None → Some i ≡ numbered name_same n (room names) (keys names) → (length (keys names) < room names) × (i ≡ length (keys names))
   took i o e = ⊎_elim (λ h. (h, some_same i (length (keys names)) (e ∙ (at_new name_same n (room names) (keys names) o h).0))) (λ h. absurd (some_none i (e ∙ (at_refused name_same n (room names) (keys names) o h).0))) (cases_lt (length (keys names)) (room names))

@@ -3,15 +3,15 @@ use Rattle.std.proofs.Common.{◌≡◌, ℕ, ◌≤◌, true, List, ◌++◌, O
 use Rattle.effects.specs.Codes.{Codes, QuestionCodes}
 use Rattle.effects.specs.declared.tables.EffectTables.{EffectTables}
 use Rattle.effects.specs.declared.tables.QuestionTables.{QuestionTables}
+use Rattle.probing.specs.Model.{NameTable}
 use Rattle.probing.specs.declared.name.Name.{Name}
-use Rattle.probing.specs.declared.table.Table.{Table}
 use Rattle.tape.specs.Entries.{Holds, Moved, Stepped, own_command}
 use Rattle.tape.specs.Tape.{next_command, after, bytes_taken}
 use Rattle.tape.specs.declared.command.Command.{Command}
 use Rattle.tape.specs.declared.refusal.Refusal.{Refusal}
 use Rattle.tape.specs.declared.stack.Stack.{Stack}
 use Rattle.diagram.specs.Entries.{store_model}
-use Rattle.diagram.specs.Stores.{Ready, Later}
+use Rattle.diagram.specs.Stores.{Later}
 use Rattle.diagram.specs.declared.store.Store.{Store}
 use Rattle.shelf.specs.Catalogue.{Catalogue, facts, open_row, results, filed_results, all_results, feeding}
 use Rattle.shelf.specs.Calls.{slot_tests}
@@ -21,7 +21,7 @@ use Rattle.shelf.proofs.Feeding.{own_is, storing_more, fed_next}
 use Rattle.shelf.proofs.Replies.{on_ok}
 use Rattle.shelf.proofs.Upholding.{all_are, unmoved, fed}
 
-module _ {K : Codes} {Q : QuestionCodes} {names : Table Name} {store : Store} {tables : EffectTables} {questions : QuestionTables} {stack : Stack ℕ} {state : State} {c : Catalogue} (u : Upholds K Q names store tables questions stack state c) (opened : state.drafting ≡ true) (n : ℕ) (facts-n : n ≡ facts c) (few : n ≤ 32) (bs : List ℕ) (store' : Store) (stack' : Stack ℕ) (ready : Ready store') (later : Later store store') (r : Result ℕ Refusal) (sd : Stepped store_model K n (open_row c) bs store store' stack' r) where
+module _ {K : Codes} {Q : QuestionCodes} {names : NameTable} {store : Store} {tables : EffectTables} {questions : QuestionTables} {stack : Stack ℕ} {state : State} {c : Catalogue} (u : Upholds K Q names store tables questions stack state c) (opened : state.drafting ≡ true) (n : ℕ) (facts-n : n ≡ facts c) (few : n ≤ 32) (bs : List ℕ) (store' : Store) (stack' : Stack ℕ) (later : Later store store') (r : Result ℕ Refusal) (sd : Stepped store_model K n (open_row c) bs store store' stack' r) where
   -- the command as the catalogue says
   abbrev pub next : Result (Command × ℕ) Refusal
   next = next_command K (facts c) (slot_tests K c.making.slots (facts c) (all_results K c) (open_row c)) (open_row c) bs
@@ -45,8 +45,8 @@ module _ {K : Codes} {Q : QuestionCodes} {names : Table Name} {store : Store} {t
   step_upholds = by next (sym own ∙ next_is) (subst (Moved store_model K (open_row c) store store') next_is at_facts.moved) (subst (λ v. Holds store_model K store' stack' (after (open_row c) v)) next_is at_facts.holds)
     where
       by : (v : Result (Command × ℕ) Refusal) → next_command K (facts c) (slot_tests K c.making.slots (facts c) (filed_results K c ++ results K (open_row c)) (open_row c)) (open_row c) bs ≡ v → Moved store_model K (open_row c) store store' v → Holds store_model K store' stack' (after (open_row c) v) → Upholds K Q names store' tables questions stack' state (on_ok c (λ d. feeding c d.0) v)
-      by (Err e) q m h = unmoved u store' stack' ready m (λ _. h)
+      by (Err e) q m h = unmoved u store' stack' m (λ _. h)
       by (Ok d) q m h =
           fed u store' stack' d.0 later opened h
           (fed_next K (facts c) (subst (λ k. k ≤ 32) facts-n few) (filed_results K c) (open_row c) bs store c.making.slots st (u.drafting opened).fed d store' stack' q h)
-          (storing_more K (facts c) (subst (λ k. k ≤ 32) facts-n few) (filed_results K c) (open_row c) bs store c.making.slots st (u.drafting opened).fed store' ready d q m)
+          (storing_more K (facts c) (subst (λ k. k ≤ 32) facts-n few) (filed_results K c) (open_row c) bs store c.making.slots st (u.drafting opened).fed store' d q m)

@@ -7,12 +7,11 @@ use Rattle.std.specs.List.{flat_map}
 use Rattle.effects.specs.Codes.{Codes, QuestionCodes}
 use Rattle.effects.specs.declared.tables.EffectTables.{EffectTables}
 use Rattle.effects.specs.declared.tables.QuestionTables.{QuestionTables}
-use Rattle.probing.specs.Kinds.{text, name_same, name_hashed}
-use Rattle.probing.specs.Model.{Whole, keys, kept, room}
+use Rattle.probing.specs.Kinds.{text, name_same}
+use Rattle.probing.specs.Model.{NameTable, keys, kept, room}
 use Rattle.probing.specs.Table.{number_from}
 use Rattle.probing.specs.declared.Slot.{Slot}
 use Rattle.probing.specs.declared.name.Name.{Name}
-use Rattle.probing.specs.declared.table.Table.{Table}
 use Rattle.tape.specs.Entries.{Holds, down}
 use Rattle.tape.specs.Tape.{Row, result, ended}
 use Rattle.tape.specs.declared.command.Command.{Command}
@@ -22,11 +21,10 @@ use Rattle.tape.proofs.Stepping.{held_at}
 use Rattle.diagram.specs.Counted.{Each, Ignores}
 use Rattle.diagram.specs.Entries.{store_model}
 use Rattle.diagram.specs.Lasting.{means_later, each_weaker}
-use Rattle.diagram.specs.Stores.{nodes, held as held_by, Ready, Recorded, Means, Later, Unchanged, Back}
+use Rattle.diagram.specs.Stores.{nodes, held as held_by, Recorded, Means, Later, Unchanged, Back}
 use Rattle.diagram.specs.declared.store.Store.{Store}
 use Rattle.diagram.proofs.CountLaws.{ignores_more}
 use Rattle.diagram.proofs.Recording.{later_unchanged, recorded_facts}
-use Rattle.diagram.proofs.Records.{opened as standing}
 use Rattle.shelf.specs.Names.{Spelling, same_name}
 use Rattle.shelf.specs.Catalogue.{Catalogue, Filed, no_policy, facts, is_open, open_row, results, held_results, filed_results, all_results, held, naming, opening, feeding, filing, abandoning}
 use Rattle.shelf.specs.States.{opened_state, filed_state, closed_state}
@@ -49,7 +47,7 @@ number_below same x k (y ∷ ks) i e = by (same y x) e (number_below same x (k +
     by false e f = let z = f e in omega arith
 
 -- there are no more names than slots
-pub keys_room : (names : Table Name) → length (keys names) ≤ room names
+pub keys_room : (names : NameTable) → length (keys names) ≤ room names
 keys_room names = omega (arith, length-take names.count (kept names), length-map names.slots.now (λ (x : Slot Name). x.key))
 
 -- lists of results
@@ -130,7 +128,7 @@ filing_more K s roots many filed row root room m below f = record {
         (subst (λ r. P r (record { row = row })) (sym (ap (λ i. get_or (set roots many root) i 0) e ∙ get_or-set_same roots many root 0 (let l = f.places in omega arith))) new))
         (cases_lt p many)
 
-module _ {K : Codes} {Q : QuestionCodes} {names : Table Name} {store : Store} {tables : EffectTables} {questions : QuestionTables} {stack : Stack ℕ} {state : State} {c : Catalogue} (u : Upholds K Q names store tables questions stack state c) where
+module _ {K : Codes} {Q : QuestionCodes} {names : NameTable} {store : Store} {tables : EffectTables} {questions : QuestionTables} {stack : Stack ℕ} {state : State} {c : Catalogue} (u : Upholds K Q names store tables questions stack state c) where
   -- an equal state, and an equal catalogue
   pub in_state : {next : State} → next ≡ state → Upholds K Q names store tables questions stack next c
   in_state e = subst (λ (s : State). Upholds K Q names store tables questions stack s c) (sym e) u
@@ -148,23 +146,21 @@ module _ {K : Codes} {Q : QuestionCodes} {names : Table Name} {store : Store} {t
   -- held
   pub held_is : held_by store ≡ held K c
   unfolding held
-  held_is = recorded_facts store (standing store u.storing.ready) _ (facts c) (all_results K c) u.storing.recorded few_facts u.storing.keeps
+  held_is = recorded_facts store _ (facts c) (all_results K c) u.storing.recorded few_facts u.storing.keeps
 
   -- a name more
-  pub declared : (names' : Table Name) (n : Name) → Whole name_same name_hashed names' → room names' ≡ room names → keys names' ≡ keys names ++ n ∷ [] → Upholds K Q names' store tables questions stack state (naming c (text n))
+  pub declared : (names' : NameTable) (n : Name) → room names' ≡ room names → keys names' ≡ keys names ++ n ∷ [] → Upholds K Q names' store tables questions stack state (naming c (text n))
   unfolding all_results filed_results
-  declared names' n w r k =
+  declared names' n r k =
       let more : facts c ≤ facts (naming c (text n)) = omega (arith, length-append c.contents.names (text n ∷ [])) in
       record {
         algebra = u.algebra;
         naming = record {
-          whole = w;
           few = subst (λ m. m ≤ 32) (sym r) u.naming.few;
           slots_are = u.naming.slots_are ∙ sym r;
           are = ap (λ (ts : List Spelling). ts ++ text n ∷ []) u.naming.are ∙ sym (map-append text (keys names) (n ∷ [])) ∙ ap (map text) (sym k);
         };
         storing = record {
-          ready = u.storing.ready;
           slots_are = u.storing.slots_are;
           recorded = u.storing.recorded;
           keeps = each_weaker (Ignores (facts c)) (Ignores (facts (naming c (text n)))) (λ F i. ignores_more _ _ F more i) _ u.storing.keeps;
@@ -186,11 +182,10 @@ module _ {K : Codes} {Q : QuestionCodes} {names : Table Name} {store : Store} {t
       }
 
   -- the same names in another table
-  pub renamed : (names' : Table Name) → Whole name_same name_hashed names' → room names' ≡ room names → keys names' ≡ keys names → Upholds K Q names' store tables questions stack state c
-  renamed names' w r k = record {
+  pub renamed : (names' : NameTable) → room names' ≡ room names → keys names' ≡ keys names → Upholds K Q names' store tables questions stack state c
+  renamed names' r k = record {
     algebra = u.algebra;
     naming = record {
-      whole = w;
       few = subst (λ m. m ≤ 32) (sym r) u.naming.few;
       slots_are = u.naming.slots_are ∙ sym r;
       are = u.naming.are ∙ ap (map text) (sym k);
@@ -247,15 +242,14 @@ module _ {K : Codes} {Q : QuestionCodes} {names : Table Name} {store : Store} {t
       }
 
   -- the draft's row dropped
-  pub abandoned : (store' : Store) → Ready store' → state.drafting ≡ true → Back store state.before store' → Upholds K Q names store' tables questions stack (closed_state state) (abandoning c)
-  abandoned store' r e b =
+  pub abandoned : (store' : Store) → state.drafting ≡ true → Back store state.before store' → Upholds K Q names store' tables questions stack (closed_state state) (abandoning c)
+  abandoned store' e b =
       let d = u.drafting e in
       let many : held_by store' ≡ state.before = ap length b.nodes ∙ length-take-le state.before (nodes store) d.before.within in
       record {
         algebra = u.algebra;
         naming = u.naming;
         storing = subst (Storing store' c.making.slots (facts c)) (sym (abandoning_are K c)) (record {
-          ready = r;
           slots_are = u.storing.slots_are ∙ sym b.slots;
           recorded = subst (λ k. Recorded store' k (filed_results K c)) (sym many) (b.recorded state.before (filed_results K c) (omega arith) d.before);
           keeps = each_front (Ignores (facts c)) (filed_results K c) (results K (open_row c)) (subst (Each (Ignores (facts c))) (all_are K c) u.storing.keeps);
@@ -276,14 +270,13 @@ module _ {K : Codes} {Q : QuestionCodes} {names : Table Name} {store : Store} {t
       }
 
   -- the store and the stack as they were
-  pub unmoved : (store' : Store) (stack' : Stack ℕ) → Ready store' → Unchanged store store' → (state.drafting ≡ true → Holds store_model K store' stack' (open_row c)) → Upholds K Q names store' tables questions stack' state c
-  unmoved store' stack' r w h =
+  pub unmoved : (store' : Store) (stack' : Stack ℕ) → Unchanged store store' → (state.drafting ≡ true → Holds store_model K store' stack' (open_row c)) → Upholds K Q names store' tables questions stack' state c
+  unmoved store' stack' w h =
       let l = later_unchanged store store' w in
       record {
         algebra = u.algebra;
         naming = u.naming;
         storing = record {
-          ready = r;
           slots_are = u.storing.slots_are ∙ sym w.slots;
           recorded = subst (λ k. Recorded store' k (all_results K c)) (sym (ap length w.nodes)) (l.recorded (held_by store) (all_results K c) u.storing.recorded);
           keeps = u.storing.keeps;

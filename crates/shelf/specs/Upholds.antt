@@ -4,16 +4,15 @@ use Rattle.effects.specs.Codes.{Codes, QuestionCodes, Closed}
 use Rattle.effects.specs.Tables.{Tables, Asked}
 use Rattle.effects.specs.declared.tables.EffectTables.{EffectTables}
 use Rattle.effects.specs.declared.tables.QuestionTables.{QuestionTables}
-use Rattle.probing.specs.Kinds.{text, name_same, name_hashed}
-use Rattle.probing.specs.Model.{Whole, keys, room}
+use Rattle.probing.specs.Kinds.{text}
+use Rattle.probing.specs.Model.{NameTable, keys, room}
 use Rattle.probing.specs.declared.name.Name.{Name}
-use Rattle.probing.specs.declared.table.Table.{Table}
 use Rattle.tape.specs.Entries.{Holds}
 use Rattle.tape.specs.Tape.{Row, values, result, ended}
 use Rattle.tape.specs.declared.stack.Stack.{Stack}
 use Rattle.diagram.specs.Counted.{Each, Ignores}
 use Rattle.diagram.specs.Entries.{store_model}
-use Rattle.diagram.specs.Stores.{held as held_by, slots, Ready, Recorded, Means}
+use Rattle.diagram.specs.Stores.{held as held_by, slots, Recorded, Means}
 use Rattle.diagram.specs.declared.store.Store.{Store}
 use Rattle.shelf.specs.Names.{Spelling}
 use Rattle.shelf.specs.Catalogue.{Catalogue, Filed, no_policy, facts, is_open, open_row, filed_results, all_results}
@@ -26,15 +25,13 @@ pub record Algebra (K : Codes) (Q : QuestionCodes) (tables : EffectTables) (ques
   pub questions_are : Asked K.count Q questions
 
 -- the keys of the table are the declared names, and it has the slots for names
-pub record Naming (names : Table Name) (name_slots : ℕ) (declared : List Spelling) : Type 0 where
-  pub whole : Whole name_same name_hashed names
+pub record Naming (names : NameTable) (name_slots : ℕ) (declared : List Spelling) : Type 0 where
   pub few : room names ≤ 32
   pub slots_are : name_slots ≡ room names
   pub are : declared ≡ map text (keys names)
 
 -- the store records the functions Fs, all of them of n facts, and has so many slots
 pub record Storing (store : Store) (many n : ℕ) (Fs : List (ℕ → ℕ)) : Type 0 where
-  pub ready : Ready store
   pub slots_are : many ≡ slots store
   pub recorded : Recorded store (held_by store) Fs
   pub keeps : Each (Ignores n) Fs
@@ -66,7 +63,7 @@ pub record Drafting (K : Codes) (store : Store) (stack : Stack ℕ) (state : Sta
   pub given : 0 < c.given
 
 -- all of it
-pub record Upholds (K : Codes) (Q : QuestionCodes) (names : Table Name) (store : Store) (tables : EffectTables) (questions : QuestionTables) (stack : Stack ℕ) (state : State) (c : Catalogue) : Type 0 where
+pub record Upholds (K : Codes) (Q : QuestionCodes) (names : NameTable) (store : Store) (tables : EffectTables) (questions : QuestionTables) (stack : Stack ℕ) (state : State) (c : Catalogue) : Type 0 where
   pub algebra : Algebra K Q tables questions
   pub naming : Naming names c.making.name_slots c.contents.names
   pub storing : Storing store c.making.slots (facts c) (all_results K c)

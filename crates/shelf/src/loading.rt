@@ -2,7 +2,7 @@
 ghost use Rattle.std.specs.Prelude.{◌≡◌, ℕ, ◌≤◌, List};
 ghost use Rattle.effects.specs.Codes.{Codes, QuestionCodes, Closed};
 ghost use Rattle.effects.specs.Tables.{Tables};
-ghost use Rattle.diagram.specs.Stores.{Ready, Later};
+ghost use Rattle.diagram.specs.Stores.{Later};
 ghost use Rattle.shelf.specs.Catalogue.{Catalogue};
 ghost use Rattle.shelf.specs.Calls.{load_answer, after_load};
 ghost use Rattle.shelf.specs.Loading.{Loads};
@@ -24,8 +24,7 @@ fn read_all(
     facts: u8,
     tape: &[u8],
 ) -> Result<(), RefusedAt>
-    requires { (facts ≤ 32) × (Ready store.old) }
-    ensures ready { Ready store.new }
+    requires { facts ≤ 32 }
     ensures later { Later store.old store.new }
     ensures loads { (K : Codes) (Fs : List (ℕ → ℕ)) → Closed K → Tables K tables.now → Loads K facts Fs tape.now store.old stack.old store.new stack.new result }
 {

@@ -7,7 +7,7 @@ use Rattle.shelf.proofs.Loads.{read_none, read_more, read_refused, read_early, r
 use Rattle.shelf.proofs.loading.read_all.Goals as goal
 
 pub loop-place-init : goal.loop-place-init
-loop-place-init c = (omega arith, c.requires.0, c.requires.1, later_same c.args.store.now, λ few K Fs C T st d e. read_none K c.args.facts few (slots c.args.store.now) Fs c.args.tape.now c.args.store.now c.args.stack.now d e st)
+loop-place-init c = (omega arith, c.requires, later_same c.args.store.now, λ few K Fs C T st d e. read_none K c.args.facts few (slots c.args.store.now) Fs c.args.tape.now c.args.store.now c.args.stack.now d e st)
 
 pub loop-place-preserved : goal.loop-place-preserved
 loop-place-preserved c =
@@ -20,11 +20,10 @@ loop-place-preserved c =
     let within : p + c.in-Ok.count ≤ length tape = omega arith in (
       within,
       c.loop-place.invariant.1,
-      e.ready,
-      later_chain c.args.store.now c.loop-place.store c.step.new.on c.loop-place.invariant.3 e.kept,
+      later_chain c.args.store.now c.loop-place.store c.step.new.on c.loop-place.invariant.2 e.kept,
       λ few K Fs C T st d u.
-          let rd = c.loop-place.invariant.4 few K Fs C T st d u in
-          read_more K c.args.facts few (slots c.args.store.now) Fs tape c.loop-place.store c.step.new.on c.loop-place.stack c.step.new.stack p c.in-Ok.count rd e.ready lt e.some.0 le
+          let rd = c.loop-place.invariant.3 few K Fs C T st d u in
+          read_more K c.args.facts few (slots c.args.store.now) Fs tape c.loop-place.store c.step.new.on c.loop-place.stack c.step.new.stack p c.in-Ok.count rd lt e.some.0 le
           (stepped_rest store_model K c.args.facts rd.row tape p c.loop-place.store c.step.new.on c.step.new.stack (Ok c.in-Ok.count) (e.stands K rd.row C T rd.holds)),
     )
 
@@ -34,25 +33,22 @@ returns-in-Err c =
     let tape = c.args.tape.now in
     let e = c.in-Err.ensures in
     record {
-      ready = e.ready;
-      later = later_chain c.args.store.now c.loop-place.store c.step.new.on c.loop-place.invariant.3 e.kept;
+      later = later_chain c.args.store.now c.loop-place.store c.step.new.on c.loop-place.invariant.2 e.kept;
       loads = λ K Fs C T st d u.
-          let few = c.requires.0 in
-          let rd = c.loop-place.invariant.4 few K Fs C T st d u in
+          let few = c.requires in
+          let rd = c.loop-place.invariant.3 few K Fs C T st d u in
           read_refused K c.args.facts few (slots c.args.store.now) Fs tape c.loop-place.store c.step.new.on c.loop-place.stack c.step.new.stack p c.in-Err.refusal rd c.loop-place-test.true
           (stepped_rest store_model K c.args.facts rd.row tape p c.loop-place.store c.step.new.on c.step.new.stack (Err c.in-Err.refusal) (e.stands K rd.row C T rd.holds));
     }
 
 pub returns-then-not-stack : goal.returns-then-not-stack
 returns-then-not-stack c = record {
-  ready = c.loop-place.invariant.2;
-  later = c.loop-place.invariant.3;
-  loads = λ K Fs C T st d u. read_early K c.args.facts c.requires.0 (slots c.args.store.now) Fs c.args.tape.now c.loop-place.store c.loop-place.stack c.loop-place.place (c.loop-place.invariant.4 c.requires.0 K Fs C T st d u) c.loop-place-test.false c.if-not-stack.true;
+  later = c.loop-place.invariant.2;
+  loads = λ K Fs C T st d u. read_early K c.args.facts c.requires (slots c.args.store.now) Fs c.args.tape.now c.loop-place.store c.loop-place.stack c.loop-place.place (c.loop-place.invariant.3 c.requires K Fs C T st d u) c.loop-place-test.false c.if-not-stack.true;
 }
 
 pub returns : goal.returns
 returns c = record {
-  ready = c.loop-place.invariant.2;
-  later = c.loop-place.invariant.3;
-  loads = λ K Fs C T st d u. read_whole K c.args.facts c.requires.0 (slots c.args.store.now) Fs c.args.tape.now c.loop-place.store c.loop-place.stack c.loop-place.place (c.loop-place.invariant.4 c.requires.0 K Fs C T st d u) c.loop-place-test.false c.if-not-stack.false;
+  later = c.loop-place.invariant.2;
+  loads = λ K Fs C T st d u. read_whole K c.args.facts c.requires (slots c.args.store.now) Fs c.args.tape.now c.loop-place.store c.loop-place.stack c.loop-place.place (c.loop-place.invariant.3 c.requires K Fs C T st d u) c.loop-place-test.false c.if-not-stack.false;
 }

@@ -2,7 +2,6 @@ use Rattle.std.proofs.Common.{◌≡◌, ℕ, ◌^◌, leb, Ok, Err, sym, ap, �
 use Rattle.std.proofs.lemmas.Result.{err_from_is_err_and}
 use Rattle.diagram.specs.Stores.{meaning}
 use Rattle.shelf.specs.Stands.{asking}
-use Rattle.shelf.proofs.Facts.{ready_store}
 use Rattle.shelf.proofs.Asked.{no_policy, a_policy, ask_50, ask_52, ask_ok}
 use Rattle.shelf.proofs.Asking.{asking_is}
 use Rattle.shelf.proofs.shelf.Shelf.ask.Goals as goal
@@ -21,9 +20,6 @@ returns-then-beyond c =
     let n = a_policy s c.args.policy _ c.in_ok-root.ensures in
     let e = sym (ask_52 s c.args.policy c.args.request n.0 (ap (λ k. leb (2 ^ k) c.args.request) (sym c.facts.ensures.number) ∙ sym c.if-beyond.ensures)) in
     record { says = e; stands = λ K Q cat u. e ∙ asking_is s u c.args.policy c.args.request }
-
-pub evaluate-requires : goal.evaluate-requires
-evaluate-requires c = ready_store c.args.self.now
 
 pub returns : goal.returns
 returns c =

@@ -4,7 +4,6 @@ use Rattle.diagram.specs.Questions.{Breaks}
 use Rattle.diagram.specs.Requests.{Witness}
 use Rattle.diagram.specs.Stores.{meaning}
 use Rattle.shelf.specs.Stands.{Comparing, found_on}
-use Rattle.shelf.proofs.Facts.{ready_store}
 use Rattle.shelf.proofs.Asked.{no_policy, a_policy, compare_first, compare_second, compare_question, compare_ok}
 use Rattle.shelf.proofs.Asking.{comparing_is}
 use Rattle.shelf.proofs.shelf.Shelf.compare.Goals as goal
@@ -35,9 +34,6 @@ returns-then-question-self c =
     let n = a_policy s c.args.second _ c.in_ok-other.ensures in
     let w = compare_question s c.args.first c.args.second c.args.question m.0 n.0 c.if-question-self.true in
     record { says = w; stands = λ K Q cat u. comparing_is s u _ _ _ _ w; blank = search rules }
-
-pub witness-requires : goal.witness-requires
-witness-requires c = ready_store c.args.self.now
 
 pub returns : goal.returns
 returns c =

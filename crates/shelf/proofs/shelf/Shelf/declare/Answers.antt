@@ -1,7 +1,6 @@
 use Rattle.std.proofs.Common.{◌<◌, Ok, sym, refl, ap, ◌∙◌, arith, rules}
 use mathlib.Core.Logic.{∥∥₁_map, ∥∥₁_elim}
 use native.Mathlib.Bridge.{le_prop}
-use Rattle.shelf.proofs.Facts.{whole_names}
 use Rattle.shelf.proofs.Upholding.{at_catalogue}
 use Rattle.shelf.proofs.Replies.{same_shapes}
 use Rattle.shelf.proofs.Spellings.{find_good, number_agrees, fits, refused, inserted, took, gone, declare_bad, declare_known, declare_new, declare_full}
@@ -25,9 +24,6 @@ returns-in-Some c = record {
       (d.0, record { stands = at_catalogue u d.1; stay = λ p h k. refl });
 }
 
-pub insert-requires : goal.insert-requires
-insert-requires c = whole_names c.args.self.now
-
 pub invariant_of-self : goal.invariant_of-self
 invariant_of-self c =
     let n = c.args.name.now in
@@ -35,7 +31,7 @@ invariant_of-self c =
       stands = ∥∥₁_map c.args.self.now.stands (λ k.
           let u = k.1.1.1 in
           let o = sym (number_agrees u n) ∙ sym (find_good k.1.1.0 n g) ∙ sym (c.in_default.ensures k.0 k.1.0 k.1.1.0 u) in
-          (k.0, (k.1.0, inserted u n c.insert.new.self o c.insert.ensures.sound c.insert.ensures.width c.insert.ensures.listed)));
+          (k.0, (k.1.0, inserted u n c.insert.new.self o c.insert.ensures.width c.insert.ensures.listed)));
     }
 
 pub overflow_cast-result : goal.overflow_cast-result
@@ -60,7 +56,7 @@ returns-in-Some-insert c = record {
       let d = declare_new u n g (number_agrees u n ∙ o) t.0 in (
         ap (λ k. Ok k) t.1 ∙ d.0,
         record {
-          stands = at_catalogue (fits u n c.insert.new.self o t.0 c.insert.ensures.sound c.insert.ensures.width c.insert.ensures.listed) d.1;
+          stands = at_catalogue (fits u n c.insert.new.self o t.0 c.insert.ensures.width c.insert.ensures.listed) d.1;
           stay = λ p h k. same_shapes _ _ p refl;
         },
       );
@@ -77,7 +73,7 @@ returns-in-None c = record {
       let d = declare_full u n g (number_agrees u n ∙ o) full in (
         d.0,
         record {
-          stands = at_catalogue (refused u n c.insert.new.self o full c.insert.ensures.sound c.insert.ensures.width c.insert.ensures.listed) d.1;
+          stands = at_catalogue (refused u n c.insert.new.self o full c.insert.ensures.width c.insert.ensures.listed) d.1;
           stay = λ p h k. same_shapes _ _ p refl;
         },
       );

@@ -1,7 +1,6 @@
 use Rattle.std.proofs.Common.{sym, refl, ap, ◌∙◌, lit<}
 use mathlib.Core.Logic.{∥∥₁_map}
 use Rattle.shelf.specs.Drafts.{handed_on}
-use Rattle.shelf.proofs.Facts.{ready_store}
 use Rattle.shelf.proofs.Replies.{owned, feed_foreign, feed_by, same_shapes}
 use Rattle.shelf.proofs.Stepped.{answer_is, step_upholds}
 use Rattle.shelf.proofs.Upholding.{facts_are, at_catalogue}
@@ -16,7 +15,7 @@ returns-then-not-owns c = record {
 }
 
 pub step-requires : goal.step-requires
-step-requires c = (lit< tt, (c.facts-facts.ensures.few, ready_store c.args.self.now))
+step-requires c = (lit< tt, c.facts-facts.ensures.few)
 
 pub invariant_of-self : goal.invariant_of-self
 invariant_of-self c = record {
@@ -24,7 +23,7 @@ invariant_of-self c = record {
       let K = k.0 in
       let u = k.1.1.1 in
       let e = owned u c.args.draft.shelf c.args.draft.count (sym (c.if-not-owns.ensures k.0 k.1.0 k.1.1.0 u)) in
-      (K, (k.1.0, (_, step_upholds u e c.facts-facts.result (c.facts-facts.ensures.number ∙ sym (facts_are u)) c.facts-facts.ensures.few c.args.bytes.now c.step.new.on c.step.new.stack c.step.ensures.ready c.step.ensures.kept c.step.result (c.step.ensures.stands K _ u.algebra.closed u.algebra.tables_are (u.drafting e).holds)))));
+      (K, (k.1.0, (_, step_upholds u e c.facts-facts.result (c.facts-facts.ensures.number ∙ sym (facts_are u)) c.facts-facts.ensures.few c.args.bytes.now c.step.new.on c.step.new.stack c.step.ensures.kept c.step.result (c.step.ensures.stands K _ u.algebra.closed u.algebra.tables_are (u.drafting e).holds)))));
 }
 
 pub returns-in-Ok : goal.returns-in-Ok
@@ -36,8 +35,8 @@ returns-in-Ok c = record {
       let sd = c.step.ensures.stands K _ u.algebra.closed u.algebra.tables_are (u.drafting e).holds in
       let n = c.facts-facts.ensures.number ∙ sym (facts_are u) in
       let f = feed_by u c.args.draft.shelf c.args.draft.count c.args.bytes.now _ own refl in
-      let w = step_upholds u e c.facts-facts.result n c.facts-facts.ensures.few c.args.bytes.now c.step.new.on c.step.new.stack c.step.ensures.ready c.step.ensures.kept c.step.result sd in
-      let a = answer_is u e c.facts-facts.result n c.facts-facts.ensures.few c.args.bytes.now c.step.new.on c.step.new.stack c.step.ensures.ready c.step.ensures.kept c.step.result sd in
+      let w = step_upholds u e c.facts-facts.result n c.facts-facts.ensures.few c.args.bytes.now c.step.new.on c.step.new.stack c.step.ensures.kept c.step.result sd in
+      let a = answer_is u e c.facts-facts.result n c.facts-facts.ensures.few c.args.bytes.now c.step.new.on c.step.new.stack c.step.ensures.kept c.step.result sd in
       (ap (handed_on c.args.draft) (sym c.in-Ok.is ∙ a ∙ sym f.0), record { stands = at_catalogue w f.1; stay = λ p h k. same_shapes _ _ p refl });
 }
 
@@ -50,7 +49,7 @@ returns-in-Err c = record {
       let sd = c.step.ensures.stands K _ u.algebra.closed u.algebra.tables_are (u.drafting e).holds in
       let n = c.facts-facts.ensures.number ∙ sym (facts_are u) in
       let f = feed_by u c.args.draft.shelf c.args.draft.count c.args.bytes.now _ own refl in
-      let w = step_upholds u e c.facts-facts.result n c.facts-facts.ensures.few c.args.bytes.now c.step.new.on c.step.new.stack c.step.ensures.ready c.step.ensures.kept c.step.result sd in
-      let a = answer_is u e c.facts-facts.result n c.facts-facts.ensures.few c.args.bytes.now c.step.new.on c.step.new.stack c.step.ensures.ready c.step.ensures.kept c.step.result sd in
+      let w = step_upholds u e c.facts-facts.result n c.facts-facts.ensures.few c.args.bytes.now c.step.new.on c.step.new.stack c.step.ensures.kept c.step.result sd in
+      let a = answer_is u e c.facts-facts.result n c.facts-facts.ensures.few c.args.bytes.now c.step.new.on c.step.new.stack c.step.ensures.kept c.step.result sd in
       (ap (handed_on c.args.draft) (sym c.in-Err.is ∙ a ∙ sym f.0), record { stands = at_catalogue w f.1; stay = λ p h k. same_shapes _ _ p refl });
 }

@@ -1,11 +1,7 @@
 use Rattle.std.proofs.Common.{◌∙◌}
 use Rattle.shelf.specs.Stands.{holding}
-use Rattle.shelf.proofs.Facts.{ready_store}
 use Rattle.shelf.proofs.Asking.{holding_is}
 use Rattle.shelf.proofs.shelf.Shelf.held.Goals as goal
-
-pub held-requires : goal.held-requires
-held-requires c = ready_store c.args.self.now
 
 pub returns : goal.returns
 unfolding holding

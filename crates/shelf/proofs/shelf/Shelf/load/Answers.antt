@@ -2,7 +2,7 @@ use Rattle.std.proofs.Common.{◌<◌, Ok, Err, sym, refl, ◌∙◌, subst, rul
 use mathlib.Core.Logic.{∥∥₁_map, ∥∥₁_elim}
 use native.Mathlib.Bridge.{le_prop}
 use Rattle.shelf.specs.Catalogue.{all_results}
-use Rattle.shelf.proofs.Facts.{ready_store, few_policies}
+use Rattle.shelf.proofs.Facts.{few_policies}
 use Rattle.shelf.proofs.Loads.{storing_all, row_is, undone, filed_row}
 use Rattle.shelf.proofs.Replies.{may_open, load_long, load_refused, load_read, same_shapes, older_shapes}
 use Rattle.shelf.proofs.Upholding.{facts_are, held_is, in_state, at_catalogue}
@@ -24,23 +24,20 @@ returns-in-Err c = record {
       (sym a.0, record { stands = at_catalogue u a.1; stay = λ p h k. refl });
 }
 
-pub held-before-requires : goal.held-before-requires
-held-before-requires c = ready_store c.args.self.now
-
 pub read_all-requires : goal.read_all-requires
-read_all-requires c = (c.facts-facts.ensures.few, ready_store c.args.self.now)
+read_all-requires c = c.facts-facts.ensures.few
 
 pub invariant_of-self : goal.invariant_of-self
 invariant_of-self c = record {
   stands = ∥∥₁_map c.args.self.now.stands (λ k.
       let u = k.1.1.1 in
       let m = may_open u (sym (c.in_default.ensures k.0 k.1.0 k.1.1.0 u)) in
-      (k.0, (k.1.0, (k.1.1.0, undone u c.facts-facts.result (c.facts-facts.ensures.number ∙ sym (facts_are u)) c.roll_back.new.self m.0 c.roll_back.ensures.ready (c.roll_back.ensures.back.restored c.args.self.now.store c.read_all.ensures.later c.held-before.ensures.number)))));
+      (k.0, (k.1.0, (k.1.1.0, undone u c.facts-facts.result (c.facts-facts.ensures.number ∙ sym (facts_are u)) c.roll_back.new.self m.0 (c.roll_back.ensures.restored c.args.self.now.store c.read_all.ensures.later c.held-before.ensures.number)))));
 }
 
 pub returns-in-Err-read_all : goal.returns-in-Err-read_all
 returns-in-Err-read_all c =
-    let back = c.roll_back.ensures.back.restored c.args.self.now.store c.read_all.ensures.later c.held-before.ensures.number in
+    let back = c.roll_back.ensures.restored c.args.self.now.store c.read_all.ensures.later c.held-before.ensures.number in
     record {
       lent = record { slots = back.slots; name_slots = refl };
       moves = λ K Q cat u.
@@ -49,7 +46,7 @@ returns-in-Err-read_all c =
           let n = c.facts-facts.ensures.number ∙ sym (facts_are u) in
           let e = c.in-Err-read_all.ensures.loads K (all_results K cat) u.algebra.closed u.algebra.tables_are (storing_all u c.facts-facts.result n) c.empty-stack.ensures.bare c.empty-stack.ensures.unended in
           let a = load_read u c.args.tape.now (Err c.in-Err-read_all.refused) c.if-tape-gt-LONGEST_TAPE.false t (row_is u c.facts-facts.result n c.args.tape.now _ e) in
-          (sym a.0, record { stands = at_catalogue (undone u c.facts-facts.result n c.roll_back.new.self m.0 c.roll_back.ensures.ready back) a.1; stay = λ p h k. same_shapes _ _ p refl });
+          (sym a.0, record { stands = at_catalogue (undone u c.facts-facts.result n c.roll_back.new.self m.0 back) a.1; stay = λ p h k. same_shapes _ _ p refl });
     }
 
 pub filing-self-requires : goal.filing-self-requires

@@ -26,7 +26,7 @@ invariant_of-result g c =
             at_making c.args.number (length c.args.nodes.now) (length c.args.names.now),
             in_state (made K Q c.args.number (length c.args.nodes.now) (length c.args.names.now) c.new.result c.new-2.result c.effect_tables.result c.question_tables.result c.empty.result
                 (record { closed = closed M g.met.A.EffectAlgebra.lawful; tables_are = c.effect_tables.ensures; questions_are = c.question_tables.ensures })
-                c.new.ensures.sound c.new.ensures.listed (c.new.ensures.width ∙ part c.args.names.now _ 32 c.min-facts.ensures) (omega arith) c.new-2.ensures.ready c.new-2.ensures.bare (c.new-2.ensures.width ∙ part c.args.nodes.now _ 65520 c.min-slots.ensures) c.new-2.ensures.recorded) c.new-3.ensures,
+                c.new.ensures.listed (c.new.ensures.width ∙ part c.args.names.now _ 32 c.min-facts.ensures) (omega arith) c.new-2.ensures.bare (c.new-2.ensures.width ∙ part c.args.nodes.now _ 65520 c.min-slots.ensures) c.new-2.ensures.recorded) c.new-3.ensures,
           ),
         ),
       ) ∣₁;
@@ -40,7 +40,7 @@ returns g c =
     record {
       stands = in_state (made K Q c.args.number (length c.args.nodes.now) (length c.args.names.now) c.new.result c.new-2.result c.effect_tables.result c.question_tables.result c.empty.result
           (record { closed = closed M g.met.A.EffectAlgebra.lawful; tables_are = c.effect_tables.ensures; questions_are = c.question_tables.ensures })
-          c.new.ensures.sound c.new.ensures.listed (c.new.ensures.width ∙ part c.args.names.now _ 32 c.min-facts.ensures) (omega arith) c.new-2.ensures.ready c.new-2.ensures.bare (c.new-2.ensures.width ∙ part c.args.nodes.now _ 65520 c.min-slots.ensures) c.new-2.ensures.recorded) c.new-3.ensures;
+          c.new.ensures.listed (c.new.ensures.width ∙ part c.args.names.now _ 32 c.min-facts.ensures) (omega arith) c.new-2.ensures.bare (c.new-2.ensures.width ∙ part c.args.nodes.now _ 65520 c.min-slots.ensures) c.new-2.ensures.recorded) c.new-3.ensures;
       nodes = c.new-2.ensures.blank ∙ ap (λ n. replicate n (free {K = Node} (record { fact = 0; low = 0; high = 0 }))) (part c.args.nodes.now _ 65520 c.min-slots.ensures);
       names = c.new.ensures.blank ∙ ap (λ n. replicate n (free {K = Name} (record { len = 0; bytes = replicate 16 0 }))) (part c.args.names.now _ 32 c.min-facts.ensures);
     }

@@ -4,7 +4,6 @@ use Rattle.std.proofs.lemmas.Result.{err_from_is_err_and}
 use Rattle.shelf.specs.Drafts.{given_out}
 use Rattle.shelf.specs.States.{opened_state}
 use Rattle.shelf.specs.declared.state.State.{State}
-use Rattle.shelf.proofs.Facts.{ready_store}
 use Rattle.shelf.proofs.Replies.{may_open, open_refused, open_ok, kept_shapes}
 use Rattle.shelf.proofs.Upholding.{opened, in_state, at_catalogue}
 use Rattle.shelf.proofs.shelf.Shelf.open.Goals as goal
@@ -18,9 +17,6 @@ returns-in_err-refuse_opening c =
           let o = open_refused u _ (sym (c.in_err-refuse_opening.ensures K Q cat u)) in
           (p.1 ∙ ap (λ x. Err x) p.2 ∙ sym (ap given_out o.0), record { stands = at_catalogue u o.1; stay = λ p h k. refl });
     }
-
-pub held-held-requires : goal.held-held-requires
-held-held-requires c = ready_store c.args.self.now
 
 pub invariant_of-self : goal.invariant_of-self
 invariant_of-self c = record {
