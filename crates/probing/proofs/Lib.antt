@@ -5,3 +5,4 @@ pub mod Tables
 pub mod Slots
 pub mod Seeking
 pub mod Texts
+pub mod Blank

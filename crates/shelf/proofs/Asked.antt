@@ -20,23 +20,23 @@ passed_by true n r p = let z : ◌≡◌ {A = ℕ} 0 1 = cc in absurd (omega ari
 passed_by false n r p = (refl, cc)
 
 module _ (s : Shelf) (p : ℕ) where
-  pub no_policy : (e : Refusal) → Err e ≡ shaping s p → (leb s.state.filed p ≡ true) × (e ≡ NoPolicy)
+  pub no_policy : (e : Refusal) → Err e ≡ shaping s p → (leb (length s.state.roots.items) p ≡ true) × (e ≡ NoPolicy)
   unfolding shaping
-  no_policy e h = refused_by (leb s.state.filed p) (numbering s p) e h
+  no_policy e h = refused_by (leb (length s.state.roots.items) p) (numbering s p) e h
 
-  pub a_policy : (r : ℕ) → Ok r ≡ shaping s p → (leb s.state.filed p ≡ false) × (r ≡ numbering s p)
+  pub a_policy : (r : ℕ) → Ok r ≡ shaping s p → (leb (length s.state.roots.items) p ≡ false) × (r ≡ numbering s p)
   unfolding shaping
-  a_policy r h = passed_by (leb s.state.filed p) (numbering s p) r h
+  a_policy r h = passed_by (leb (length s.state.roots.items) p) (numbering s p) r h
 
-  pub ask_50 : (r : ℕ) → leb s.state.filed p ≡ true → asking s p r ≡ Err NoPolicy
+  pub ask_50 : (r : ℕ) → leb (length s.state.roots.items) p ≡ true → asking s p r ≡ Err NoPolicy
   unfolding asking
   ask_50 r h = cond-true _ _ _ h
 
-  pub ask_52 : (r : ℕ) → leb s.state.filed p ≡ false → leb (2 ^ length (keys s.names)) r ≡ true → asking s p r ≡ Err UndeclaredInRequest
+  pub ask_52 : (r : ℕ) → leb (length s.state.roots.items) p ≡ false → leb (2 ^ length (keys s.names)) r ≡ true → asking s p r ≡ Err UndeclaredInRequest
   unfolding asking
   ask_52 r h k = cond-false _ _ _ h ∙ cond-true _ _ _ k
 
-  pub ask_ok : (r : ℕ) → leb s.state.filed p ≡ false → leb (2 ^ length (keys s.names)) r ≡ false → asking s p r ≡ Ok (meaning s.store (numbering s p) r)
+  pub ask_ok : (r : ℕ) → leb (length s.state.roots.items) p ≡ false → leb (2 ^ length (keys s.names)) r ≡ false → asking s p r ≡ Ok (meaning s.store (numbering s p) r)
   unfolding asking
   ask_ok r h k = cond-false _ _ _ h ∙ cond-false _ _ _ k
 
@@ -48,19 +48,19 @@ module _ (s : Shelf) (p q k : ℕ) where
       same : (f e : Refusal) → ◌≡◌ {A = Result (Unit {0}) Refusal} (Err f) (Err e) → e ≡ f
       same f e h = cc
 
-  pub compare_first : leb s.state.filed p ≡ true → Comparing s p q k (Err NoPolicy)
+  pub compare_first : leb (length s.state.roots.items) p ≡ true → Comparing s p q k (Err NoPolicy)
   unfolding Comparing
   compare_first h = told (refusing s p q k) NoPolicy (cond-true _ _ _ h)
 
-  pub compare_second : leb s.state.filed p ≡ false → leb s.state.filed q ≡ true → Comparing s p q k (Err NoPolicy)
+  pub compare_second : leb (length s.state.roots.items) p ≡ false → leb (length s.state.roots.items) q ≡ true → Comparing s p q k (Err NoPolicy)
   unfolding Comparing
   compare_second h i = told (refusing s p q k) NoPolicy (cond-false _ _ _ h ∙ cond-true _ _ _ i)
 
-  pub compare_question : leb s.state.filed p ≡ false → leb s.state.filed q ≡ false → s.questions.count ≤ k → Comparing s p q k (Err NoQuestion)
+  pub compare_question : leb (length s.state.roots.items) p ≡ false → leb (length s.state.roots.items) q ≡ false → s.questions.count ≤ k → Comparing s p q k (Err NoQuestion)
   unfolding Comparing
   compare_question h i j = told (refusing s p q k) NoQuestion (cond-false _ _ _ h ∙ cond-false _ _ _ i ∙ cond-true _ _ _ (le-leb s.questions.count k j))
 
-  pub compare_ok : (o : Option ℕ) → leb s.state.filed p ≡ false → leb s.state.filed q ≡ false → k < s.questions.count → found_on s p q k o → Comparing s p q k (Ok o)
+  pub compare_ok : (o : Option ℕ) → leb (length s.state.roots.items) p ≡ false → leb (length s.state.roots.items) q ≡ false → k < s.questions.count → found_on s p q k o → Comparing s p q k (Ok o)
   unfolding Comparing
   compare_ok o h i j w = by (refusing s p q k) (cond-false _ _ _ h ∙ cond-false _ _ _ i ∙ cond-false _ _ _ (lt-leb s.questions.count k j))
     where

@@ -68,7 +68,7 @@ module _ {K : Codes} {Q : QuestionCodes} (s : Shelf) {c : Catalogue} (u : Stands
   pub asking_is : (p r : ℕ) → asking s p r ≡ ask_answer K c p r
   unfolding asking ask_answer
   asking_is p r =
-      two_tests (leb s.state.filed p) (leb (2 ^ length (keys s.names)) r) (leb (policies c) p) (leb (2 ^ facts c) r) NoPolicy UndeclaredInRequest _ _
+      two_tests (leb (length s.state.roots.items) p) (leb (2 ^ length (keys s.names)) r) (leb (policies c) p) (leb (2 ^ facts c) r) NoPolicy UndeclaredInRequest _ _
       (ap (λ n. leb n p) (sym u.filing.are)) (ap (λ n. leb (2 ^ n) r) (sym (facts_are u)))
       (λ a b. means_row p (leb-false (policies c) p a) r (within (leb-false (2 ^ facts c) r b)))
     where

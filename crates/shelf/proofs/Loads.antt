@@ -1,5 +1,5 @@
 -- A whole tape read into a store.
-use Rattle.std.proofs.Common.{◌≡◌, ℕ, ◌+◌, ◌<◌, ◌≤◌, true, false, List, ◌++◌, length, get_or, drop, Ok, Err, Result, sym, refl, ap, ◌∙◌, subst, append-nil}
+use Rattle.std.proofs.Common.{◌≡◌, ℕ, ◌+◌, ◌<◌, ◌≤◌, true, false, List, ◌++◌, length, get_or, drop, Ok, Err, Result, sym, refl, ap, ◌∙◌, subst, append-nil, is_some}
 use Rattle.std.proofs.lemmas.Bool.{cond-true, cond-false, false≢true}
 use Rattle.effects.specs.Codes.{Codes, QuestionCodes}
 use Rattle.effects.specs.declared.tables.EffectTables.{EffectTables}
@@ -80,11 +80,11 @@ module _ {K : Codes} {Q : QuestionCodes} {names : NameTable} {store : Store} {ta
   row_is tape v e = ap (λ m. read_row K (facts c) m (all_results K c) tape) u.storing.slots_are ∙ ap (λ m. read_row K m (slots store) (all_results K c) tape) (sym facts-n) ∙ e
 
   -- a load that is undone
-  pub undone : (store' : Store) → state.drafting ≡ false → Unchanged store store' → Upholds K Q names store' tables questions stack state c
-  undone store' none w = unmoved u store' stack w (λ e. absurd (false≢true (sym none ∙ e)))
+  pub undone : (store' : Store) → is_some state.before ≡ false → Unchanged store store' → Upholds K Q names store' tables questions stack state c
+  undone store' none w = unmoved u store' stack w (λ b e. absurd (false≢true (sym none ∙ ap is_some e)))
 
   -- a load that is filed
-  pub filed_row : (store' : Store) (stack' : Stack ℕ) (row : Row) (root : ℕ) → Later store store' → state.drafting ≡ false → state.filed < 64 → Loaded K n (slots store) (all_results K c) store' stack' row → root ≡ get_or (down 0 stack'.entries stack'.outline.depth) 0 0 → Upholds K Q names store' tables questions stack (filed_state state root) (filing c row)
+  pub filed_row : (store' : Store) (stack' : Stack ℕ) (row : Row) (root : ℕ) → Later store store' → is_some state.before ≡ false → length state.roots.items < 64 → Loaded K n (slots store) (all_results K c) store' stack' row → root ≡ get_or (down 0 stack'.entries stack'.outline.depth) 0 0 → Upholds K Q names store' tables questions stack (filed_state state root) (filing c row)
   filed_row store' stack' row root l none room ld top =
       loaded u store' stack' row root l none room ld.holds (subst (λ m. Fed K m row) facts-n ld.fed) ld.ends
       (subst (Storing store' c.making.slots (facts c)) (ap (λ Fs. Fs ++ results K row) (filed_only K c (closed_row c (u.drafting_is ∙ none))))

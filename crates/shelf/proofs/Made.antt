@@ -1,6 +1,5 @@
 -- A shelf that was just made.
 use Rattle.std.proofs.Common.{◌≡◌, ℕ, ◌≤◌, min, [], map, sym, refl, ap, subst, arith}
-use Rattle.std.proofs.lemmas.Bool.{false≢true}
 use Rattle.effects.specs.Codes.{Codes, QuestionCodes}
 use Rattle.effects.specs.declared.tables.EffectTables.{EffectTables}
 use Rattle.effects.specs.declared.tables.QuestionTables.{QuestionTables}
@@ -14,6 +13,7 @@ use Rattle.shelf.specs.Catalogue.{at_making, filed_results, all_results}
 use Rattle.shelf.specs.States.{no_state}
 use Rattle.shelf.specs.Upholds.{Algebra, Storing, Upholds}
 use Rattle.shelf.proofs.Rows.{results_none}
+use Rattle.shelf.proofs.Upholding.{none_some}
 
 none : (K : Codes) (number many few : ℕ) → all_results K (at_making number many few) ≡ []
 unfolding all_results filed_results
@@ -24,9 +24,9 @@ made K Q number many few names store tables questions stack a k r b h sl R = rec
   algebra = a;
   naming = record { few = subst (λ n. n ≤ 32) (sym r) b; slots_are = sym r; are = ap (map text) (sym k) };
   storing = subst (Storing store (min many 65520) 0) (sym (none K number many few)) (record { slots_are = sym sl; recorded = subst (λ n. Recorded store n []) (sym h) R; keeps = tt });
-  filing = record { are = refl; places = refl; few = omega arith; roots_mean = λ p l. absurd (omega arith); effects_below = λ p q l. absurd (omega arith) };
+  filing = record { are = refl; few = omega arith; roots_mean = λ p l. absurd (omega arith); effects_below = λ p q l. absurd (omega arith) };
   number_is = refl;
   given_is = refl;
   drafting_is = refl;
-  drafting = λ e. absurd (false≢true e);
+  drafting = λ b e. absurd (none_some e);
 }

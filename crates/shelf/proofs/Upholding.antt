@@ -1,7 +1,7 @@
 -- What a shelf stands at: the names, and how each change of its parts is a change of the catalogue.
-use Rattle.std.proofs.Common.{◌≡◌, ℕ, ◌+◌, ◌%◌, ◌^◌, ◌<◌, ◌≤◌, Bool, true, false, cond, ◌≢◌, List, [], ◌∷◌, ◌++◌, map, length, get_or, set, Some, None, Option, sym, refl, ap, ◌∙◌, subst, ⊎_elim, append-nil, arith, length-append, length-set, length-take, length-take-le, get_or-set_other, get_or-set_same}
+use Rattle.std.proofs.Common.{◌≡◌, ℕ, ◌+◌, ◌%◌, ◌^◌, ◌<◌, ◌≤◌, Bool, true, false, cond, ◌≢◌, List, [], ◌∷◌, ◌++◌, map, length, get_or, Some, None, is_some, Option, sym, refl, ap, ◌∙◌, subst, ⊎_elim, append-nil, arith, length-append, length-take, length-take-le}
 use lib.ListN.{length-map}
-use Rattle.std.proofs.lemmas.List.{flat_map_more, get_or_append_left, get_or_push, map-append}
+use Rattle.std.proofs.lemmas.List.{flat_map_more, length_push, get_or_append_left, get_or_push, map-append}
 use Rattle.std.proofs.lemmas.Bool.{cases_lt, false≢true, true≢false}
 use Rattle.std.specs.List.{flat_map}
 use Rattle.effects.specs.Codes.{Codes, QuestionCodes}
@@ -49,6 +49,9 @@ number_below same x k (y ∷ ks) i e = by (same y x) e (number_below same x (k +
 -- there are no more names than slots
 pub keys_room : (names : NameTable) → length (keys names) ≤ room names
 keys_room names = omega (arith, length-take names.count (kept names), length-map names.slots.now (λ (x : Slot Name). x.key))
+
+pub none_some : {b : ℕ} → ◌≡◌ {A = Option ℕ} None (Some b) → ⊥
+none_some e = let z : ◌≡◌ {A = ℕ} 0 1 = cc in omega arith
 
 -- lists of results
 each_front : {A : Type 0} (P : A → Type 0) (xs ys : List A) → Each P (xs ++ ys) → Each P xs
@@ -100,33 +103,34 @@ unfolding filed_results
 filed_feeding K c x = refl
 
 -- what a policy and a store that came after it have to do with each other
-filing_later : (K : Codes) (s t : Store) (roots : List ℕ) (many : ℕ) (filed : List Filed) → Later s t → Filing K s roots many filed → Filing K t roots many filed
-filing_later K s t roots many filed l f = record {
+filing_later : (K : Codes) (s t : Store) (roots : List ℕ) (filed : List Filed) → Later s t → Filing K s roots filed → Filing K t roots filed
+filing_later K s t roots filed l f = record {
   are = f.are;
-  places = f.places;
   few = f.few;
   roots_mean = λ p h. means_later s t _ _ l (f.roots_mean p h);
   effects_below = f.effects_below;
 }
 
 -- one policy more
-pub filing_more : (K : Codes) (s : Store) (roots : List ℕ) (many : ℕ) (filed : List Filed) (row : Row) (root : ℕ) → many < 64 → Means s root (λ q. result K row q) → ((q : ℕ) → result K row q < K.count) → Filing K s roots many filed → Filing K s (set roots many root) (many + 1) (filed ++ (record { row = row }) ∷ [])
-filing_more K s roots many filed row root room m below f = record {
-  are = length-append filed ((record { row = row }) ∷ []) ∙ (let a = f.are in omega arith);
-  places = length-set roots many root ∙ f.places;
-  few = omega arith;
+pub filing_more : (K : Codes) (s : Store) (roots : List ℕ) (filed : List Filed) (row : Row) (root : ℕ) → length roots < 64 → Means s root (λ q. result K row q) → ((q : ℕ) → result K row q < K.count) → Filing K s roots filed → Filing K s (roots ++ root ∷ []) (filed ++ (record { row = row }) ∷ [])
+filing_more K s roots filed row root room m below f = record {
+  are = length_push filed (record { row = row }) ∙ ap (λ n. n + 1) f.are ∙ sym more;
+  few = omega (arith, more);
   roots_mean = λ p h. each p h (λ r w. Means s r (λ q. result K w.row q)) (λ l. f.roots_mean p l) m;
   effects_below = λ p q h. each p h (λ r w. result K w.row q < K.count) (λ l. f.effects_below p q l) (below q);
 }
   where
-    each : (p : ℕ) → p < many + 1 → (P : ℕ → Filed → Type 0) → (p < many → P (get_or roots p 0) (get_or filed p no_policy)) → P root (record { row = row }) → P (get_or (set roots many root) p 0) (get_or (filed ++ (record { row = row }) ∷ []) p no_policy)
+    more : length (roots ++ root ∷ []) ≡ length roots + 1
+    more = length_push roots root
+
+    each : (p : ℕ) → p < length (roots ++ root ∷ []) → (P : ℕ → Filed → Type 0) → (p < length roots → P (get_or roots p 0) (get_or filed p no_policy)) → P root (record { row = row }) → P (get_or (roots ++ root ∷ []) p 0) (get_or (filed ++ (record { row = row }) ∷ []) p no_policy)
     each p h P old new =
         ⊎_elim
-        (λ l. subst (λ w. P (get_or (set roots many root) p 0) w) (sym (get_or_append_left filed ((record { row = row }) ∷ []) no_policy p (let a = f.are in omega arith))) (subst (λ r. P r (get_or filed p no_policy)) (sym (get_or-set_other roots many p root 0 (let ne : p ≢ many = omega arith in ne))) (old l)))
-        (λ g. let e : p ≡ many = omega arith in
-        subst (λ w. P (get_or (set roots many root) p 0) w) (sym (get_or_push filed (record { row = row }) no_policy p (let a = f.are in omega arith)))
-        (subst (λ r. P r (record { row = row })) (sym (ap (λ i. get_or (set roots many root) i 0) e ∙ get_or-set_same roots many root 0 (let l = f.places in omega arith))) new))
-        (cases_lt p many)
+        (λ l. subst (λ w. P (get_or (roots ++ root ∷ []) p 0) w) (sym (get_or_append_left filed ((record { row = row }) ∷ []) no_policy p (let a = f.are in omega arith))) (subst (λ r. P r (get_or filed p no_policy)) (sym (get_or_append_left roots (root ∷ []) 0 p l)) (old l)))
+        (λ g. let e : p ≡ length roots = omega (arith, more) in
+        subst (λ w. P (get_or (roots ++ root ∷ []) p 0) w) (sym (get_or_push filed (record { row = row }) no_policy p (let a = f.are in omega arith)))
+        (subst (λ r. P r (record { row = row })) (sym (get_or_push roots root 0 p (sym e))) new))
+        (cases_lt p (length roots))
 
 module _ {K : Codes} {Q : QuestionCodes} {names : NameTable} {store : Store} {tables : EffectTables} {questions : QuestionTables} {stack : Stack ℕ} {state : State} {c : Catalogue} (u : Upholds K Q names store tables questions stack state c) where
   -- an equal state, and an equal catalogue
@@ -169,12 +173,12 @@ module _ {K : Codes} {Q : QuestionCodes} {names : NameTable} {store : Store} {ta
         number_is = u.number_is;
         given_is = u.given_is;
         drafting_is = u.drafting_is;
-        drafting = λ e.
-            let d = u.drafting e in
+        drafting = λ b e.
+            let d = u.drafting b e in
             record {
               holds = d.holds;
               fed = fed_facts K _ _ _ more d.fed;
-              before = d.before;
+              recorded_before = d.recorded_before;
               roots_before = d.roots_before;
               room = d.room;
               given = d.given;
@@ -199,7 +203,7 @@ module _ {K : Codes} {Q : QuestionCodes} {names : NameTable} {store : Store} {ta
   }
 
   -- a draft opened
-  pub opened : (stack' : Stack ℕ) → stack'.outline.depth ≡ 0 → stack'.outline.ended ≡ false → state.drafting ≡ false → state.filed < 64 → Upholds K Q names store tables questions stack' (opened_state state (held_by store)) (opening c)
+  pub opened : (stack' : Stack ℕ) → stack'.outline.depth ≡ 0 → stack'.outline.ended ≡ false → is_some state.before ≡ false → length state.roots.items < 64 → Upholds K Q names store tables questions stack' (opened_state state (held_by store)) (opening c)
   opened stack' bare unended none room =
       let only : all_results K c ≡ filed_results K c = filed_only K c (closed_row c (u.drafting_is ∙ none)) in
       let st : Storing store c.making.slots (facts c) (filed_results K c) = subst (Storing store c.making.slots (facts c)) only u.storing in
@@ -211,66 +215,68 @@ module _ {K : Codes} {Q : QuestionCodes} {names : NameTable} {store : Store} {ta
         number_is = u.number_is;
         given_is = ap (λ n. (n + 1) % 2 ^ 32) u.given_is ∙ wrapped c.given;
         drafting_is = refl;
-        drafting = λ _. record {
+        drafting = λ b e. record {
           holds = holds_empty store_model K store stack' bare unended;
           fed = fed_none K (facts c);
-          before = subst (Recorded store (held_by store)) (sym (filed_opening K c)) st.recorded;
-          roots_before = λ p h. (u.filing.roots_mean p h).within;
+          recorded_before = subst (λ n. Recorded store n (filed_results K (opening c))) (held_then b e) (subst (Recorded store (held_by store)) (sym (filed_opening K c)) st.recorded);
+          roots_before = λ p h. subst (λ n. get_or state.roots.items p 0 < 16 + n) (held_then b e) (u.filing.roots_mean p h).within;
           room = room;
           given = omega arith;
         };
       }
     where
+      held_then : (b : ℕ) → ◌≡◌ {A = Option ℕ} (Some (held_by store)) (Some b) → held_by store ≡ b
+      held_then b e = cc
+
       wrapped : (n : ℕ) → (n % 2 ^ 32 + 1) % 2 ^ 32 ≡ (n + 1) % 2 ^ 32
       wrapped n = omega arith
 
   -- the draft's row filed
-  pub filed : (root : ℕ) → state.drafting ≡ true → stack.outline.ended ≡ true → root ≡ get_or (down 0 stack.entries stack.outline.depth) 0 0 → Upholds K Q names store tables questions stack (filed_state state root) (filing c (open_row c))
-  filed root e over top =
-      let d = u.drafting e in
+  pub filed : (root before : ℕ) → state.before ≡ Some before → stack.outline.ended ≡ true → root ≡ get_or (down 0 stack.entries stack.outline.depth) 0 0 → Upholds K Q names store tables questions stack (filed_state state root) (filing c (open_row c))
+  filed root before e over top =
+      let d = u.drafting before e in
       record {
         algebra = u.algebra;
         naming = u.naming;
         storing = subst (Storing store c.making.slots (facts c)) (all_are K c ∙ sym (filed_more K c (open_row c))) u.storing;
-        filing = filing_more K store state.roots state.filed c.contents.filed (open_row c) root d.room
+        filing = filing_more K store state.roots.items c.contents.filed (open_row c) root d.room
             (held_at store_model K store stack (open_row c) 0 root 0 (record { within = omega arith; same = λ r h. refl }) d.holds top)
             (d.fed.finished (sym d.holds.over ∙ over)) u.filing;
         number_is = u.number_is;
         given_is = u.given_is;
         drafting_is = refl;
-        drafting = λ z. absurd (false≢true z);
+        drafting = λ b z. absurd (none_some z);
       }
 
   -- the draft's row dropped
-  pub abandoned : (store' : Store) → state.drafting ≡ true → Back store state.before store' → Upholds K Q names store' tables questions stack (closed_state state) (abandoning c)
-  abandoned store' e b =
-      let d = u.drafting e in
-      let many : held_by store' ≡ state.before = ap length b.nodes ∙ length-take-le state.before (nodes store) d.before.within in
+  pub abandoned : (store' : Store) (before : ℕ) → state.before ≡ Some before → Back store before store' → Upholds K Q names store' tables questions stack (closed_state state) (abandoning c)
+  abandoned store' before e b =
+      let d = u.drafting before e in
+      let many : held_by store' ≡ before = ap length b.nodes ∙ length-take-le before (nodes store) d.recorded_before.within in
       record {
         algebra = u.algebra;
         naming = u.naming;
         storing = subst (Storing store' c.making.slots (facts c)) (sym (abandoning_are K c)) (record {
           slots_are = u.storing.slots_are ∙ sym b.slots;
-          recorded = subst (λ k. Recorded store' k (filed_results K c)) (sym many) (b.recorded state.before (filed_results K c) (omega arith) d.before);
+          recorded = subst (λ k. Recorded store' k (filed_results K c)) (sym many) (b.recorded before (filed_results K c) (omega arith) d.recorded_before);
           keeps = each_front (Ignores (facts c)) (filed_results K c) (results K (open_row c)) (subst (Each (Ignores (facts c))) (all_are K c) u.storing.keeps);
         });
         filing = record {
           are = u.filing.are;
-          places = u.filing.places;
           few = u.filing.few;
           roots_mean = λ p h.
-              let w : get_or state.roots p 0 < 16 + held_by store' = omega (arith, d.roots_before p h, many) in
-              record { within = w; same = λ q l. b.means (get_or state.roots p 0) w q ∙ (u.filing.roots_mean p h).same q l };
+              let w : get_or state.roots.items p 0 < 16 + held_by store' = omega (arith, d.roots_before p h, many) in
+              record { within = w; same = λ q l. b.means (get_or state.roots.items p 0) w q ∙ (u.filing.roots_mean p h).same q l };
           effects_below = u.filing.effects_below;
         };
         number_is = u.number_is;
         given_is = u.given_is;
         drafting_is = refl;
-        drafting = λ z. absurd (false≢true z);
+        drafting = λ b z. absurd (none_some z);
       }
 
   -- the store and the stack as they were
-  pub unmoved : (store' : Store) (stack' : Stack ℕ) → Unchanged store store' → (state.drafting ≡ true → Holds store_model K store' stack' (open_row c)) → Upholds K Q names store' tables questions stack' state c
+  pub unmoved : (store' : Store) (stack' : Stack ℕ) → Unchanged store store' → ((before : ℕ) → state.before ≡ Some before → Holds store_model K store' stack' (open_row c)) → Upholds K Q names store' tables questions stack' state c
   unmoved store' stack' w h =
       let l = later_unchanged store store' w in
       record {
@@ -281,16 +287,16 @@ module _ {K : Codes} {Q : QuestionCodes} {names : NameTable} {store : Store} {ta
           recorded = subst (λ k. Recorded store' k (all_results K c)) (sym (ap length w.nodes)) (l.recorded (held_by store) (all_results K c) u.storing.recorded);
           keeps = u.storing.keeps;
         };
-        filing = filing_later K store store' state.roots state.filed c.contents.filed l u.filing;
+        filing = filing_later K store store' state.roots.items c.contents.filed l u.filing;
         number_is = u.number_is;
         given_is = u.given_is;
         drafting_is = u.drafting_is;
-        drafting = λ e.
-            let d = u.drafting e in
+        drafting = λ b e.
+            let d = u.drafting b e in
             record {
-              holds = h e;
+              holds = h b e;
               fed = d.fed;
-              before = l.recorded state.before (filed_results K c) d.before;
+              recorded_before = l.recorded b (filed_results K c) d.recorded_before;
               roots_before = d.roots_before;
               room = d.room;
               given = d.given;
@@ -298,38 +304,39 @@ module _ {K : Codes} {Q : QuestionCodes} {names : NameTable} {store : Store} {ta
       }
 
   -- a command more
-  pub fed : (store' : Store) (stack' : Stack ℕ) (x : Command) → Later store store' → state.drafting ≡ true → Holds store_model K store' stack' (open_row c ++ x ∷ []) → Fed K (facts c) (open_row c ++ x ∷ []) → Storing store' c.making.slots (facts c) (filed_results K c ++ results K (open_row c ++ x ∷ [])) → Upholds K Q names store' tables questions stack' state (feeding c x)
+  pub fed : (store' : Store) (stack' : Stack ℕ) (x : Command) → Later store store' → is_some state.before ≡ true → Holds store_model K store' stack' (open_row c ++ x ∷ []) → Fed K (facts c) (open_row c ++ x ∷ []) → Storing store' c.making.slots (facts c) (filed_results K c ++ results K (open_row c ++ x ∷ [])) → Upholds K Q names store' tables questions stack' state (feeding c x)
   fed store' stack' x l e h f st =
-      let d = u.drafting e in
       record {
         algebra = u.algebra;
         naming = u.naming;
         storing = subst (Storing store' c.making.slots (facts c)) (sym (feeding_are K c x)) st;
-        filing = filing_later K store store' state.roots state.filed c.contents.filed l u.filing;
+        filing = filing_later K store store' state.roots.items c.contents.filed l u.filing;
         number_is = u.number_is;
         given_is = u.given_is;
         drafting_is = sym e;
-        drafting = λ _. record {
-          holds = h;
-          fed = f;
-          before = subst (Recorded store' state.before) (sym (filed_feeding K c x)) (l.recorded state.before (filed_results K c) d.before);
-          roots_before = d.roots_before;
-          room = d.room;
-          given = d.given;
-        };
+        drafting = λ b o.
+            let d = u.drafting b o in
+            record {
+              holds = h;
+              fed = f;
+              recorded_before = subst (Recorded store' b) (sym (filed_feeding K c x)) (l.recorded b (filed_results K c) d.recorded_before);
+              roots_before = d.roots_before;
+              room = d.room;
+              given = d.given;
+            };
       }
 
   -- a row filed at once
-  pub loaded : (store' : Store) (stack' : Stack ℕ) (row : Row) (root : ℕ) → Later store store' → state.drafting ≡ false → state.filed < 64 → Holds store_model K store' stack' row → Fed K (facts c) row → ended row ≡ true → Storing store' c.making.slots (facts c) (filed_results K c ++ results K row) → root ≡ get_or (down 0 stack'.entries stack'.outline.depth) 0 0 → Upholds K Q names store' tables questions stack (filed_state state root) (filing c row)
+  pub loaded : (store' : Store) (stack' : Stack ℕ) (row : Row) (root : ℕ) → Later store store' → is_some state.before ≡ false → length state.roots.items < 64 → Holds store_model K store' stack' row → Fed K (facts c) row → ended row ≡ true → Storing store' c.making.slots (facts c) (filed_results K c ++ results K row) → root ≡ get_or (down 0 stack'.entries stack'.outline.depth) 0 0 → Upholds K Q names store' tables questions stack (filed_state state root) (filing c row)
   loaded store' stack' row root l none room h f over st top = record {
     algebra = u.algebra;
     naming = u.naming;
     storing = subst (Storing store' c.making.slots (facts c)) (sym (filed_more K c row)) st;
-    filing = filing_more K store' state.roots state.filed c.contents.filed row root room
+    filing = filing_more K store' state.roots.items c.contents.filed row root room
         (held_at store_model K store' stack' row 0 root 0 (record { within = omega arith; same = λ r h. refl }) h top)
-        (f.finished over) (filing_later K store store' state.roots state.filed c.contents.filed l u.filing);
+        (f.finished over) (filing_later K store store' state.roots.items c.contents.filed l u.filing);
     number_is = u.number_is;
     given_is = u.given_is;
     drafting_is = refl;
-    drafting = λ z. absurd (false≢true z);
+    drafting = λ b z. absurd (none_some z);
   }

@@ -14,6 +14,7 @@ use Rattle.diagram.specs.Cofactors.{count}
 use Rattle.diagram.specs.Requests.{Witness}
 use Rattle.shelf.specs.Names.{good_name, same_name}
 use Rattle.shelf.specs.Catalogue.{Catalogue, facts, policies, not_read, not_kept, row_of, is_open, open_row, results, all_results, held, own_open, filed_as, naming, opening, feeding, filing, abandoning}
+use Rattle.shelf.specs.declared.draft.DraftId.{DraftId}
 
 -- the number of a declared name, if it is one
 abbrev pub number_of_name : Catalogue → Name → Option ℕ
@@ -38,28 +39,28 @@ abbrev pub opening_tests : Catalogue → Tests
 opening_tests c = (is_open c, DraftOpen) ∷ (nat_le 64 (policies c), AllFiled) ∷ []
 
 -- open: the shelf's number, and how many drafts were given out before, modulo 2^32
-unfoldable pub open_answer : Catalogue → Result (ℕ × ℕ) Refusal
-open_answer c = first_of (opening_tests c) (c.making.number, c.given % 2 ^ 32)
+unfoldable pub open_answer : Catalogue → Result DraftId Refusal
+open_answer c = first_of (opening_tests c) (record { shelf = c.making.number; count = c.given % 2 ^ 32 })
 
 -- the shelf's own last test of a command, after the results Fs over n facts: 39 where held with its result would be more than the slots
 abbrev pub slot_tests : Codes → ℕ → ℕ → List (ℕ → ℕ) → Row → Command → Tests
 slot_tests K slots n Fs row x = own_tests (λ F. nat_lt slots (count n (Fs ++ F ∷ []))) K row x
 
 -- feed: 22 for another draft; else the next command, by the tape rules
-unfoldable pub fed : Codes → Catalogue → ℕ → ℕ → List ℕ → Result (Command × ℕ) Refusal
-fed K c shelf count bytes = cond (own_open c shelf count) (next_command K (facts c) (slot_tests K c.making.slots (facts c) (all_results K c) (open_row c)) (open_row c) bytes) (Err NotOpenDraft)
+unfoldable pub fed : Codes → Catalogue → DraftId → List ℕ → Result (Command × ℕ) Refusal
+fed K c d bytes = cond (own_open c d) (next_command K (facts c) (slot_tests K c.making.slots (facts c) (all_results K c) (open_row c)) (open_row c) bytes) (Err NotOpenDraft)
 
 -- how many bytes it took
-unfoldable pub feed_answer : Codes → Catalogue → ℕ → ℕ → List ℕ → Result ℕ Refusal
-feed_answer K c shelf count bytes = bytes_taken (fed K c shelf count bytes)
+unfoldable pub feed_answer : Codes → Catalogue → DraftId → List ℕ → Result ℕ Refusal
+feed_answer K c d bytes = bytes_taken (fed K c d bytes)
 
 -- file: 22 for another draft, 23 before END; else the policy's number
-unfoldable pub file_answer : Catalogue → ℕ → ℕ → Result ℕ Refusal
-file_answer c shelf count = first_of ((not (own_open c shelf count), NotOpenDraft) ∷ (not (ended (open_row c)), NotEnded) ∷ []) (filed_as c (open_row c))
+unfoldable pub file_answer : Catalogue → DraftId → Result ℕ Refusal
+file_answer c d = first_of ((not (own_open c d), NotOpenDraft) ∷ (not (ended (open_row c)), NotEnded) ∷ []) (filed_as c (open_row c))
 
 -- abandon: 22 for another draft
-unfoldable pub abandon_answer : Catalogue → ℕ → ℕ → Result (Unit {0}) Refusal
-abandon_answer c shelf count = first_of ((not (own_open c shelf count), NotOpenDraft) ∷ []) tt
+unfoldable pub abandon_answer : Catalogue → DraftId → Result (Unit {0}) Refusal
+abandon_answer c d = first_of ((not (own_open c d), NotOpenDraft) ∷ []) tt
 
 -- ask: 50 for no such policy, 52 for an undeclared fact; else the code of the effect there
 unfoldable pub ask_answer : Codes → Catalogue → ℕ → ℕ → Result ℕ Refusal
@@ -107,14 +108,14 @@ after_declare c n = elim (declare_answer c n) [ Err _ ↦ c | Ok _ ↦ cond (is_
 unfoldable pub after_open : Catalogue → Catalogue
 after_open c = elim (open_answer c) [ Err _ ↦ c | Ok _ ↦ opening c ]
 
-unfoldable pub after_feed : Codes → Catalogue → ℕ → ℕ → List ℕ → Catalogue
-after_feed K c shelf count bytes = elim (fed K c shelf count bytes) [ Err _ ↦ c | Ok d ↦ feeding c d.0 ]
+unfoldable pub after_feed : Codes → Catalogue → DraftId → List ℕ → Catalogue
+after_feed K c d bytes = elim (fed K c d bytes) [ Err _ ↦ c | Ok x ↦ feeding c x.0 ]
 
-unfoldable pub after_file : Catalogue → ℕ → ℕ → Catalogue
-after_file c shelf count = elim (file_answer c shelf count) [ Err _ ↦ c | Ok _ ↦ filing c (open_row c) ]
+unfoldable pub after_file : Catalogue → DraftId → Catalogue
+after_file c d = elim (file_answer c d) [ Err _ ↦ c | Ok _ ↦ filing c (open_row c) ]
 
-unfoldable pub after_abandon : Catalogue → ℕ → ℕ → Catalogue
-after_abandon c shelf count = elim (abandon_answer c shelf count) [ Err _ ↦ c | Ok _ ↦ abandoning c ]
+unfoldable pub after_abandon : Catalogue → DraftId → Catalogue
+after_abandon c d = elim (abandon_answer c d) [ Err _ ↦ c | Ok _ ↦ abandoning c ]
 
 unfoldable pub after_load : Codes → Catalogue → List ℕ → Catalogue
 after_load K c tape = elim (loaded K c tape) [ Err _ ↦ c | Ok row ↦ filing c row ]

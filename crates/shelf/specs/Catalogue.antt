@@ -6,6 +6,7 @@ use Rattle.tape.specs.Tape.{Row, result}
 use Rattle.tape.specs.declared.command.Command.{Command}
 use Rattle.diagram.specs.Cofactors.{count}
 use Rattle.shelf.specs.Names.{Spelling}
+use Rattle.shelf.specs.declared.draft.DraftId.{DraftId}
 
 -- what a shelf was made with: its number, and how many slots and name slots it uses
 pub record Making : Type 0 where
@@ -97,8 +98,8 @@ held K c = count (facts c) (all_results K c)
 
 -- a draft is named by its shelf's number and by how many drafts were given out there before it, modulo 2^32; it is the
 -- shelf's open one where one is open there and both numbers agree
-abbrev pub own_open : Catalogue → ℕ → ℕ → Bool
-own_open c shelf count = is_open c && (shelf == c.making.number && count == (c.given - 1) % 2 ^ 32)
+abbrev pub own_open : Catalogue → DraftId → Bool
+own_open c d = is_open c && (d.shelf == c.making.number && d.count == (c.given - 1) % 2 ^ 32)
 
 -- the number that file and load answer for a row
 abbrev pub filed_as : Catalogue → Row → ℕ

@@ -1,15 +1,12 @@
 -- Answers that hold a draft.
-use Rattle.std.specs.Prelude.{ℕ, Ok, Err, Result}
+use Rattle.std.specs.Prelude.{Ok, Err, Result}
 use Rattle.tape.specs.declared.refusal.Refusal.{Refusal}
 use Rattle.shelf.specs.declared.draft.Draft.{Draft}
-
--- the draft with those two numbers
-abbrev pub draft_of : ℕ × ℕ → Draft
-draft_of d = record { shelf = d.0; count = d.1 }
+use Rattle.shelf.specs.declared.draft.DraftId.{DraftId}
 
 -- a draft that is given out, or the refusal
-abbrev pub given_out : Result (ℕ × ℕ) Refusal → Result Draft Refusal
-given_out (Ok d) = Ok (draft_of d)
+abbrev pub given_out : Result DraftId Refusal → Result Draft Refusal
+given_out (Ok d) = Ok (record { id = d })
 given_out (Err e) = Err e
 
 -- the answer, with the draft handed back either way

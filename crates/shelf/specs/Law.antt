@@ -40,10 +40,10 @@ compared (Some w) = Witness w
 abbrev pub Answered : Codes → QuestionCodes → (ℕ → ℕ) → Catalogue → Call → Answer → Type 0
 Answered K Q number c (Declare n) a = a ≡ told Fact (declare_answer c n)
 Answered K Q number c (Find n) a = a ≡ found (find_answer c n)
-Answered K Q number c Open a = a ≡ told (λ d. Opened d.0 d.1) (open_answer c)
-Answered K Q number c (Feed shelf count bytes) a = a ≡ told Took (feed_answer K c shelf count bytes.now)
-Answered K Q number c (File shelf count) a = a ≡ told Filed (file_answer c shelf count)
-Answered K Q number c (Abandon shelf count) a = a ≡ told (λ _. Abandoned) (abandon_answer c shelf count)
+Answered K Q number c Open a = a ≡ told Opened (open_answer c)
+Answered K Q number c (Feed d bytes) a = a ≡ told Took (feed_answer K c d bytes.now)
+Answered K Q number c (File d) a = a ≡ told Filed (file_answer c d)
+Answered K Q number c (Abandon d) a = a ≡ told (λ _. Abandoned) (abandon_answer c d)
 Answered K Q number c (Load tape) a = a ≡ told_load (load_answer K c tape.now)
 Answered K Q number c (Ask p r) a = a ≡ told Code (ask_answer K c p r)
 Answered K Q number c (Shape p) a = a ≡ told Shaped (shape_answer number c p)
@@ -55,9 +55,9 @@ abbrev pub after : Codes → Catalogue → Call → Catalogue
 after K c (Declare n) = after_declare c n
 after K c (Find n) = c
 after K c Open = after_open c
-after K c (Feed shelf count bytes) = after_feed K c shelf count bytes.now
-after K c (File shelf count) = after_file c shelf count
-after K c (Abandon shelf count) = after_abandon c shelf count
+after K c (Feed d bytes) = after_feed K c d bytes.now
+after K c (File d) = after_file c d
+after K c (Abandon d) = after_abandon c d
 after K c (Load tape) = after_load K c tape.now
 after K c (Ask p r) = c
 after K c (Shape p) = c

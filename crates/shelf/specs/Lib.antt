@@ -6,5 +6,4 @@ pub mod Upholds
 pub mod Loading
 pub mod Drafts
 pub mod Stands
-pub mod Telling
 pub mod Law

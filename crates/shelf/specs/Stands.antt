@@ -20,15 +20,15 @@ Stands K Q s c = Upholds K Q s.names s.store s.tables s.questions s.stack s.stat
 
 -- the number that a shelf has for the shape of a filed policy
 abbrev pub numbering : Shelf → ℕ → ℕ
-numbering s p = slice_index s.state.roots p
+numbering s p = slice_index s.state.roots.items p
 
 -- what `ask` answers on a shelf
 unfoldable pub asking : Shelf → ℕ → ℕ → Result ℕ Refusal
-asking s p r = first_of ((nat_le s.state.filed p, NoPolicy) ∷ (nat_le (2 ^ length (keys s.names)) r, UndeclaredInRequest) ∷ []) (meaning s.store (numbering s p) r)
+asking s p r = first_of ((nat_le (length s.state.roots.items) p, NoPolicy) ∷ (nat_le (2 ^ length (keys s.names)) r, UndeclaredInRequest) ∷ []) (meaning s.store (numbering s p) r)
 
 -- what `shape` answers on a shelf
 unfoldable pub shaping : Shelf → ℕ → Result ℕ Refusal
-shaping s p = first_of ((nat_le s.state.filed p, NoPolicy) ∷ []) (numbering s p)
+shaping s p = first_of ((nat_le (length s.state.roots.items) p, NoPolicy) ∷ []) (numbering s p)
 
 -- what `held` answers on a shelf
 unfoldable pub holding : Shelf → ℕ
@@ -36,7 +36,7 @@ holding s = held s.store
 
 -- what a comparison is refused for on a shelf
 abbrev pub refusing : Shelf → ℕ → ℕ → ℕ → Result (Unit {0}) Refusal
-refusing s p q k = first_of ((nat_le s.state.filed p, NoPolicy) ∷ (nat_le s.state.filed q, NoPolicy) ∷ (nat_le s.questions.count k, NoQuestion) ∷ []) tt
+refusing s p q k = first_of ((nat_le (length s.state.roots.items) p, NoPolicy) ∷ (nat_le (length s.state.roots.items) q, NoPolicy) ∷ (nat_le s.questions.count k, NoQuestion) ∷ []) tt
 
 -- what else it answers: the first of all requests at which the two break the question
 abbrev pub found_on : Shelf → ℕ → ℕ → ℕ → Option ℕ → Type 0

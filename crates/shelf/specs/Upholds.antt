@@ -1,5 +1,5 @@
 -- What a shelf's parts have to do with a catalogue: the builder's own relation, of which callers need only that it is one.
-use Rattle.std.specs.Prelude.{◌≡◌, ℕ, ◌+◌, ◌%◌, ◌^◌, ◌<◌, ◌≤◌, true, List, map, length, slice_index, slice_index_or}
+use Rattle.std.specs.Prelude.{◌≡◌, ℕ, ◌+◌, ◌%◌, ◌^◌, ◌<◌, ◌≤◌, true, List, map, length, Some, is_some, slice_index, slice_index_or}
 use Rattle.effects.specs.Codes.{Codes, QuestionCodes, Closed}
 use Rattle.effects.specs.Tables.{Tables, Asked}
 use Rattle.effects.specs.declared.tables.EffectTables.{EffectTables}
@@ -37,12 +37,11 @@ pub record Storing (store : Store) (many n : ℕ) (Fs : List (ℕ → ℕ)) : Ty
   pub keeps : Each (Ignores n) Fs
 
 -- each root means what its policy's row says, which is an effect's code everywhere
-pub record Filing (K : Codes) (store : Store) (roots : List ℕ) (many : ℕ) (filed : List Filed) : Type 0 where
-  pub are : length filed ≡ many
-  pub places : length roots ≡ 64
-  pub few : many ≤ 64
-  pub roots_mean : (p : ℕ) → p < many → Means store (slice_index roots p) (λ q. result K (slice_index_or filed p no_policy).row q)
-  pub effects_below : (p q : ℕ) → p < many → result K (slice_index_or filed p no_policy).row q < K.count
+pub record Filing (K : Codes) (store : Store) (roots : List ℕ) (filed : List Filed) : Type 0 where
+  pub are : length filed ≡ length roots
+  pub few : length roots ≤ 64
+  pub roots_mean : (p : ℕ) → p < length roots → Means store (slice_index roots p) (λ q. result K (slice_index_or filed p no_policy).row q)
+  pub effects_below : (p q : ℕ) → p < length roots → result K (slice_index_or filed p no_policy).row q < K.count
 
 -- facts n and above make no difference to any entry of a row
 abbrev pub Settled : Codes → ℕ → Row → Type 0
@@ -53,13 +52,13 @@ pub record Fed (K : Codes) (n : ℕ) (row : Row) : Type 0 where
   pub settled : Settled K n row
   pub finished : ended row ≡ true → (q : ℕ) → result K row q < K.count
 
--- what an open draft adds: the stack holds its row, the nodes before it record the filed policies, and there is room for one more
-pub record Drafting (K : Codes) (store : Store) (stack : Stack ℕ) (state : State) (c : Catalogue) : Type 0 where
+-- what an open draft adds, with so much held before it: the stack holds its row, the nodes before it record the filed policies, and there is room for one more
+pub record Drafting (K : Codes) (store : Store) (stack : Stack ℕ) (state : State) (before : ℕ) (c : Catalogue) : Type 0 where
   pub holds : Holds store_model K store stack (open_row c)
   pub fed : Fed K (facts c) (open_row c)
-  pub before : Recorded store state.before (filed_results K c)
-  pub roots_before : (p : ℕ) → p < state.filed → slice_index state.roots p < 16 + state.before
-  pub room : state.filed < 64
+  pub recorded_before : Recorded store before (filed_results K c)
+  pub roots_before : (p : ℕ) → p < length state.roots.items → slice_index state.roots.items p < 16 + before
+  pub room : length state.roots.items < 64
   pub given : 0 < c.given
 
 -- all of it
@@ -67,8 +66,8 @@ pub record Upholds (K : Codes) (Q : QuestionCodes) (names : NameTable) (store : 
   pub algebra : Algebra K Q tables questions
   pub naming : Naming names c.making.name_slots c.contents.names
   pub storing : Storing store c.making.slots (facts c) (all_results K c)
-  pub filing : Filing K store state.roots state.filed c.contents.filed
+  pub filing : Filing K store state.roots.items c.contents.filed
   pub number_is : c.making.number ≡ state.number
   pub given_is : state.given ≡ c.given % 2 ^ 32
-  pub drafting_is : is_open c ≡ state.drafting
-  pub drafting : state.drafting ≡ true → Drafting K store stack state c
+  pub drafting_is : is_open c ≡ is_some state.before
+  pub drafting : (before : ℕ) → state.before ≡ Some before → Drafting K store stack state before c

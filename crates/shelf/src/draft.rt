@@ -1,6 +1,13 @@
-// A draft of a policy, by its shelf's number and by how many drafts that shelf had given out before it, modulo 2^32.
-// It is neither `Drop` nor `Copy`: each draft has to be filed or abandoned.
+// Drafts.
+
+// A draft's two numbers: its shelf's, and how many drafts that shelf had given out before it, modulo 2^32.
+#[derive(Clone, Copy, PartialEq, Eq, Debug)]
+pub struct DraftId {
+    pub shelf: u32,
+    pub count: u32,
+}
+
+// A draft of a policy. It is neither `Drop` nor `Copy`: each draft has to be filed or abandoned.
 pub struct Draft {
-    pub(crate) shelf: u32,
-    pub(crate) count: u32,
+    pub(crate) id: DraftId,
 }

@@ -1,16 +1,16 @@
 // The calls as values, and their answers.
+use crate::draft::DraftId;
 use probing::name::Name;
 use tape::{Refusal, RefusedAt};
 
-#[derive(Clone, Copy)]
+#[derive(Clone, Copy, Debug)]
 pub enum Call<'a> {
     Declare(Name),
     Find(Name),
     Open,
-    // a draft by its two numbers: its shelf's, and its count
-    Feed(u32, u32, &'a [u8]),
-    File(u32, u32),
-    Abandon(u32, u32),
+    Feed(DraftId, &'a [u8]),
+    File(DraftId),
+    Abandon(DraftId),
     Load(&'a [u8]),
     Ask(u8, u32),
     Shape(u8),
@@ -18,11 +18,11 @@ pub enum Call<'a> {
     Held,
 }
 
-#[derive(Clone, Copy)]
+#[derive(Clone, Copy, PartialEq, Eq, Debug)]
 pub enum Answer {
     Fact(u8),
     Unknown,
-    Opened(u32, u32),
+    Opened(DraftId),
     Took(usize),
     Filed(u8),
     Abandoned,

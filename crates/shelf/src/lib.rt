@@ -16,7 +16,7 @@ mod shelf;
 mod state;
 mod states;
 
-pub use draft::Draft;
+pub use draft::{Draft, DraftId};
 pub use exchange::{Answer, Call};
 pub use names::is_good;
 pub use runner::{run, run_on};

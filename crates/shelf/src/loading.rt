@@ -66,8 +66,8 @@ impl Shelf<'_> {
             self.store.roll_back(before);
             return Err(refused);
         }
-        let policy = self.state.filed;
-        self.state = self.state.filing(stack.top(0));
+        let policy = self.state.roots.len();
+        self.state.file(stack.top(0));
         Ok((policy as u8, self.store.held()))
     }
 }

@@ -20,12 +20,6 @@ const MOST_SLOTS: usize = 65520;
 // The most facts, one for each bit of a request.
 const MOST_FACTS: usize = 32;
 
-// A name for slots that hold none.
-const NO_NAME: Name = Name {
-    len: 0,
-    bytes: [0; 16],
-};
-
 impl<'a> Shelf<'a> {
     // An empty shelf of the algebra A. It clears the slots that it will use, at most 65,520 and 32, and no others.
     pub fn make<A: EffectAlgebra>(
@@ -40,7 +34,7 @@ impl<'a> Shelf<'a> {
         let slots = nodes.len().min(MOST_SLOTS);
         let facts = names.len().min(MOST_FACTS);
         Shelf {
-            names: Table::new(&mut names[0..facts], NO_NAME),
+            names: Table::new(&mut names[0..facts], Name::default()),
             store: Store::new(&mut nodes[0..slots]),
             tables: effect_tables::<A>(),
             questions: question_tables::<A>(),

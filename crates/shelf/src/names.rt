@@ -33,13 +33,7 @@ fn are_name_bytes(bytes: &[u8]) -> bool
 pub fn is_good(name: &Name) -> bool
     ensures { result ≡ good_name name.now }
 {
-    if name.len < 1 {
-        return false;
-    }
-    if name.len > 16 {
-        return false;
-    }
-    are_name_bytes(&name.bytes[0..name.len as usize])
+    (1..=16).contains(&name.len) && are_name_bytes(&name.bytes[..name.len as usize])
 }
 
 impl Shelf<'_> {
@@ -65,9 +59,7 @@ impl Shelf<'_> {
         if let Some(fact) = self.find(name) {
             return Ok(fact);
         }
-        match self.names.insert(*name) {
-            Some(number) => Ok(number as u8),
-            None => Err(Refusal::NamesFull),
-        }
+        let number = self.names.insert(*name).ok_or(Refusal::NamesFull)?;
+        Ok(number as u8)
     }
 }

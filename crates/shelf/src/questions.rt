@@ -12,21 +12,13 @@ use probing::guard::Guard;
 use probing::pair::Pair;
 use tape::{Refusal, beyond};
 
-// A pair for slots that hold none.
-pub(crate) const NO_PAIR: Pair = Pair {
-    first: 0,
-    second: 0,
-};
-
 impl Shelf<'_> {
     // The code of a policy's diagram.
     fn root(&self, policy: u8) -> Result<u16, Refusal>
         ensures { result ≡ shaping self.now policy }
     {
-        if policy as usize >= self.state.filed {
-            return Err(Refusal::NoPolicy);
-        }
-        Ok(self.state.roots[policy as usize])
+        let roots = self.state.roots.as_slice();
+        roots.get(policy as usize).copied().ok_or(Refusal::NoPolicy)
     }
 
     // The code of a policy's effect at a request.
@@ -63,7 +55,7 @@ impl Shelf<'_> {
     {
         let guard = Guard {
             slots: scratch,
-            blank: NO_PAIR,
+            blank: Pair::default(),
         };
         let one = self.root(first)?;
         let other = self.root(second)?;

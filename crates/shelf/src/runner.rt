@@ -1,16 +1,14 @@
 // A list of calls, run on a shelf.
-ghost use Rattle.std.specs.Prelude.{◌≡◌, min, length, take, drop, replicate};
+ghost use Rattle.std.specs.Prelude.{◌≡◌, min, length, take, drop, replicate, Ok, Err};
 ghost use Rattle.effects.specs.Codes.{Codes, QuestionCodes, codes, question_codes};
 ghost use Rattle.probing.specs.Table.{free};
 ghost use Rattle.shelf.specs.Catalogue.{Catalogue};
 ghost use Rattle.shelf.specs.Stands.{Stands, Lent, Moved, numbering};
-ghost use Rattle.shelf.specs.Telling.{told_open, told_feed, told_back};
-ghost use Rattle.shelf.specs.Law.{told, told_load, found, compared, Answered, after, Runs, Lawful};
-ghost use Rattle.shelf.specs.declared.exchange.Answer.TheVariants.{Fact, Filed, Abandoned, Code, Shaped};
+ghost use Rattle.shelf.specs.Law.{Answered, after, Runs, Lawful};
+ghost use Rattle.shelf.specs.declared.exchange.Answer.TheVariants.{Refused};
 
 use crate::draft::Draft;
 use crate::exchange::{Answer, Call};
-use crate::questions::NO_PAIR;
 use crate::shelf::Shelf;
 use effects::EffectAlgebra;
 use probing::Slot;
@@ -18,112 +16,32 @@ use probing::name::Name;
 use probing::node::Node;
 use probing::pair::Pair;
 use probing::table::wipe;
-use tape::{Refusal, RefusedAt};
+use tape::Refusal;
 
-fn fact_answer(r: Result<u8, Refusal>) -> Answer
-    ensures { result ≡ told Fact r }
+// The answer to a call that came to a value, or was refused.
+fn told<T, F: FnOnce(T) -> Answer>(came: Result<T, Refusal>, answer: F) -> Answer
+    requires { F.IsAlwaysCallable answer }
+    ensures ok { (x : _) → came ≡ Ok x → F.post answer x result }
+    ensures err { (e : _) → came ≡ Err e → result ≡ Refused e }
 {
-    match r {
-        Ok(fact) => Answer::Fact(fact),
-        Err(e) => Answer::Refused(e),
+    match came {
+        Ok(x) => answer(x),
+        Err(refusal) => Answer::Refused(refusal),
     }
 }
 
-fn find_answer(r: Option<u8>) -> Answer
-    ensures { result ≡ found r }
+// The same where a refusal hands the draft back. The runner takes the draft apart, and makes it again where a call names it.
+fn told_back<T, F: FnOnce(T) -> Answer>(came: Result<T, (Refusal, Draft)>, answer: F) -> Answer
+    requires { F.IsAlwaysCallable answer }
+    ensures ok { (x : _) → came ≡ Ok x → F.post answer x result }
+    ensures err { (e : _) → came ≡ Err e → result ≡ Refused e.0 }
 {
-    match r {
-        Some(fact) => Answer::Fact(fact),
-        None => Answer::Unknown,
-    }
-}
-
-// The runner takes the draft apart, and makes it again where a call names it.
-fn open_answer(r: Result<Draft, Refusal>) -> Answer
-    ensures { result ≡ told_open r }
-{
-    match r {
-        Ok(draft) => {
-            let Draft { shelf, count } = draft;
-            Answer::Opened(shelf, count)
+    match came {
+        Ok(x) => answer(x),
+        Err((refusal, draft)) => {
+            let Draft { id: _ } = draft;
+            Answer::Refused(refusal)
         }
-        Err(e) => Answer::Refused(e),
-    }
-}
-
-fn feed_answer(r: Result<(usize, Draft), (Refusal, Draft)>) -> Answer
-    ensures { result ≡ told_feed r }
-{
-    match r {
-        Ok((taken, draft)) => {
-            let Draft { shelf: _, count: _ } = draft;
-            Answer::Took(taken)
-        }
-        Err((e, draft)) => {
-            let Draft { shelf: _, count: _ } = draft;
-            Answer::Refused(e)
-        }
-    }
-}
-
-fn file_answer(r: Result<u8, (Refusal, Draft)>) -> Answer
-    ensures { result ≡ told_back Filed r }
-{
-    match r {
-        Ok(policy) => Answer::Filed(policy),
-        Err((e, draft)) => {
-            let Draft { shelf: _, count: _ } = draft;
-            Answer::Refused(e)
-        }
-    }
-}
-
-fn abandon_answer(r: Result<(), (Refusal, Draft)>) -> Answer
-    ensures { result ≡ told_back (λ _. Abandoned) r }
-{
-    match r {
-        Ok(()) => Answer::Abandoned,
-        Err((e, draft)) => {
-            let Draft { shelf: _, count: _ } = draft;
-            Answer::Refused(e)
-        }
-    }
-}
-
-fn load_answer(r: Result<(u8, usize), RefusedAt>) -> Answer
-    ensures { result ≡ told_load r }
-{
-    match r {
-        Ok((policy, held)) => Answer::Loaded(policy, held),
-        Err(e) => Answer::RefusedThere(e),
-    }
-}
-
-fn code_answer(r: Result<u8, Refusal>) -> Answer
-    ensures { result ≡ told Code r }
-{
-    match r {
-        Ok(code) => Answer::Code(code),
-        Err(e) => Answer::Refused(e),
-    }
-}
-
-fn shape_answer(r: Result<u16, Refusal>) -> Answer
-    ensures { result ≡ told Shaped r }
-{
-    match r {
-        Ok(number) => Answer::Shaped(number),
-        Err(e) => Answer::Refused(e),
-    }
-}
-
-fn compare_answer(r: Result<Option<u32>, Refusal>) -> Answer
-    ensures { result ≡ told compared r }
-{
-    match r {
-        Ok(None) => Answer::Kept,
-        Ok(Some(request)) => Answer::Witness(request),
-        Err(e) => Answer::Refused(e),
     }
 }
 
@@ -133,30 +51,28 @@ fn turn(shelf: &mut Shelf, call: Call, scratch: &mut [Slot<Pair>]) -> Answer
     ensures moves { (K : Codes) (Q : QuestionCodes) (c : Catalogue) → Stands K Q shelf.old c → Answered K Q (numbering shelf.old) c call.entry result × Moved K Q shelf.old shelf.new c (after K c call.entry) }
 {
     match call {
-        Call::Declare(name) => fact_answer(shelf.declare(&name)),
-        Call::Find(name) => find_answer(shelf.find(&name)),
-        Call::Open => open_answer(shelf.open()),
-        Call::Feed(number, count, bytes) => feed_answer(shelf.feed(
-            Draft {
-                shelf: number,
-                count,
-            },
-            bytes,
-        )),
-        Call::File(number, count) => file_answer(shelf.file(Draft {
-            shelf: number,
-            count,
-        })),
-        Call::Abandon(number, count) => abandon_answer(shelf.abandon(Draft {
-            shelf: number,
-            count,
-        })),
-        Call::Load(tape) => load_answer(shelf.load(tape)),
-        Call::Ask(policy, request) => code_answer(shelf.ask(policy, request)),
-        Call::Shape(policy) => shape_answer(shelf.shape(policy)),
-        Call::Compare(first, second, question) => compare_answer(shelf.compare(
-            first, second, question, scratch,
-        )),
+        Call::Declare(name) => told(shelf.declare(&name), Answer::Fact),
+        Call::Find(name) => shelf.find(&name).map_or(Answer::Unknown, Answer::Fact),
+        Call::Open => told(shelf.open(), |draft| {
+            let Draft { id } = draft;
+            Answer::Opened(id)
+        }),
+        Call::Feed(id, bytes) => told_back(shelf.feed(Draft { id }, bytes), |(taken, draft)| {
+            let Draft { id: _ } = draft;
+            Answer::Took(taken)
+        }),
+        Call::File(id) => told_back(shelf.file(Draft { id }), Answer::Filed),
+        Call::Abandon(id) => told_back(shelf.abandon(Draft { id }), |()| Answer::Abandoned),
+        Call::Load(tape) => match shelf.load(tape) {
+            Ok((policy, held)) => Answer::Loaded(policy, held),
+            Err(refused) => Answer::RefusedThere(refused),
+        },
+        Call::Ask(policy, request) => told(shelf.ask(policy, request), Answer::Code),
+        Call::Shape(policy) => told(shelf.shape(policy), Answer::Shaped),
+        Call::Compare(first, second, question) => {
+            let came = shelf.compare(first, second, question, scratch);
+            told(came, |found| found.map_or(Answer::Kept, Answer::Witness))
+        }
         Call::Held => Answer::Holding(shelf.held()),
     }
 }
@@ -179,7 +95,7 @@ pub fn run_on<A: EffectAlgebra>(
     for i in 0..n {
         log[i] = turn(shelf, calls[i], scratch);
     }
-    wipe(scratch, NO_PAIR);
+    wipe(scratch, Pair::default());
     n
 }
 

@@ -1,8 +1,10 @@
 // How a shelf's state changes.
-ghost use Rattle.std.specs.Prelude.{◌≡◌, ◌<◌};
+ghost use Rattle.std.specs.Prelude.{◌≡◌, ◌<◌, length};
 ghost use Rattle.shelf.specs.States.{no_state, opened_state, filed_state, closed_state};
 
+use crate::draft::DraftId;
 use crate::state::State;
+use arrayvec::ArrayVec;
 
 impl State {
     // No policies and no draft.
@@ -12,42 +14,32 @@ impl State {
         State {
             number,
             given: 0,
-            roots: [0; 64],
-            filed: 0,
-            drafting: false,
-            before: 0,
+            roots: ArrayVec::new(),
+            before: None,
         }
     }
 
     // A draft is given out, with so much held before it.
-    pub(crate) fn opened(self, held: usize) -> State
-        ensures { result ≡ opened_state self held }
+    pub(crate) fn open(&mut self, held: usize)
+        ensures { self.new ≡ opened_state self.old held }
     {
-        let mut next = self;
-        next.given = self.given.wrapping_add(1);
-        next.drafting = true;
-        next.before = held;
-        next
+        self.given = self.given.wrapping_add(1);
+        self.before = Some(held);
     }
 
     // One policy more, and no draft.
-    pub(crate) fn filing(self, root: u16) -> State
-        requires { self.filed < 64 }
-        ensures { result ≡ filed_state self root }
+    pub(crate) fn file(&mut self, root: u16)
+        requires { length self.old.roots.items < 64 }
+        ensures { self.new ≡ filed_state self.old root }
     {
-        let mut next = self;
-        next.roots[self.filed] = root;
-        next.filed = self.filed + 1;
-        next.drafting = false;
-        next
+        self.roots.push(root);
+        self.before = None;
     }
 
     // No draft.
-    pub(crate) fn closed(self) -> State
-        ensures { result ≡ closed_state self }
+    pub(crate) fn close(&mut self)
+        ensures { self.new ≡ closed_state self.old }
     {
-        let mut next = self;
-        next.drafting = false;
-        next
+        self.before = None;
     }
 }

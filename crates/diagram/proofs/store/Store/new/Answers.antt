@@ -1,13 +1,10 @@
-use Rattle.std.proofs.Common.{◌≡◌, length, replicate, sym, ap, ◌∙◌, subst, arith}
+use Rattle.std.proofs.Common.{length, replicate, sym, ap, ◌∙◌, subst, arith}
 use Rattle.probing.specs.Table.{free}
-use Rattle.probing.specs.declared.node.Node.{Node}
-use Rattle.diagram.specs.Nodes.{no_node, Good}
+use Rattle.probing.proofs.Blank.{blank_node}
+use Rattle.diagram.specs.Nodes.{Good}
 use Rattle.diagram.proofs.Nodes.{good_none}
 use Rattle.diagram.proofs.Recording.{recorded_none}
 use Rattle.diagram.proofs.store.Store.new.Goals as goal
-
-zero_node : (x : Node) → (x.fact ≡ 0) × ((x.low ≡ 0) × (x.high ≡ 0)) → x ≡ no_node
-zero_node x e = λ i. record { fact = e.0 i; low = e.1.0 i; high = e.1.1 i }
 
 pub invariant_of-result : goal.invariant_of-result
 invariant_of-result c = record {
@@ -20,5 +17,5 @@ returns c = record {
   bare = ap length c.new.ensures.listed;
   width = c.new.ensures.width;
   recorded = recorded_none _ c.new.ensures.listed;
-  blank = c.new.ensures.blank ∙ ap (λ x. replicate (length c.args.slots.now) (free x)) (zero_node c.default.result c.default.ensures);
+  blank = c.new.ensures.blank ∙ ap (λ x. replicate (length c.args.slots.now) (free x)) (blank_node c.default.result c.default.ensures);
 }

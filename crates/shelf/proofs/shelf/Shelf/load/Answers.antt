@@ -49,8 +49,8 @@ returns-in-Err-read_all c =
           (sym a.0, record { stands = at_catalogue (undone u c.facts-facts.result n c.roll_back.new.self m.0 back) a.1; stay = λ p h k. same_shapes _ _ p refl });
     }
 
-pub filing-self-requires : goal.filing-self-requires
-filing-self-requires c =
+pub file-requires : goal.file-requires
+file-requires c =
     ∥∥₁_elim c.args.self.now.stands le_prop (λ k.
     let u = k.1.1.1 in
     (may_open u (sym (c.in_default.ensures k.0 k.1.0 k.1.1.0 u))).1)
@@ -63,7 +63,7 @@ invariant_of-self-2 c = record {
       let m = may_open u (sym (c.in_default.ensures K k.1.0 k.1.1.0 u)) in
       let n = c.facts-facts.ensures.number ∙ sym (facts_are u) in
       let l = c.in_default-read_all.ensures.loads K (all_results K k.1.1.0) u.algebra.closed u.algebra.tables_are (storing_all u c.facts-facts.result n) c.empty-stack.ensures.bare c.empty-stack.ensures.unended in
-      (K, (k.1.0, (_, in_state (filed_row u c.facts-facts.result n c.read_all.new.store c.read_all.new.stack l.0 c.top.result c.read_all.ensures.later m.0 m.1 l.1.1 c.top.ensures) c.filing-self.ensures))));
+      (K, (k.1.0, (_, in_state (filed_row u c.facts-facts.result n c.read_all.new.store c.read_all.new.stack l.0 c.top.result c.read_all.ensures.later m.0 m.1 l.1.1 c.top.ensures) c.file.ensures))));
 }
 
 pub overflow_cast-result : goal.overflow_cast-result
@@ -77,12 +77,12 @@ returns c = record {
       let m = may_open u t in
       let n = c.facts-facts.ensures.number ∙ sym (facts_are u) in
       let l = c.in_default-read_all.ensures.loads K (all_results K cat) u.algebra.closed u.algebra.tables_are (storing_all u c.facts-facts.result n) c.empty-stack.ensures.bare c.empty-stack.ensures.unended in
-      let w = in_state (filed_row u c.facts-facts.result n c.read_all.new.store c.read_all.new.stack l.0 c.top.result c.read_all.ensures.later m.0 m.1 l.1.1 c.top.ensures) c.filing-self.ensures in
+      let w = in_state (filed_row u c.facts-facts.result n c.read_all.new.store c.read_all.new.stack l.0 c.top.result c.read_all.ensures.later m.0 m.1 l.1.1 c.top.ensures) c.file.ensures in
       let a = load_read u c.args.tape.now (Ok l.0) c.if-tape-gt-LONGEST_TAPE.false t (row_is u c.facts-facts.result n c.args.tape.now _ l.1.0) in (
-        (λ i. Ok (sym u.filing.are i, (c.held.ensures.number ∙ held_is w) i)) ∙ sym a.0,
+        (λ i. Ok ((c.len-policy.ensures.value ∙ sym u.filing.are) i, (c.held.ensures.number ∙ held_is w) i)) ∙ sym a.0,
         record {
           stands = at_catalogue w a.1;
-          stay = λ p h k. older_shapes _ _ c.top.result p c.filing-self.ensures (subst (λ x. p < x) u.filing.are h);
+          stay = λ p h k. older_shapes _ _ c.top.result p c.file.ensures (subst (λ x. p < x) u.filing.are h);
         },
       );
 }

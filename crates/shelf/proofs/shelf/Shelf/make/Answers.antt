@@ -1,6 +1,7 @@
 use Rattle.std.proofs.Common.{◌≡◌, ℕ, ◌-◌, min, List, length, take, replicate, ap, ◌∙◌, arith, length-take}
 use Rattle.effects.specs.Codes.{codes, question_codes}
 use Rattle.effects.proofs.Closing.{closed}
+use Rattle.probing.proofs.Blank.{blank_name}
 use Rattle.probing.specs.Table.{free}
 use Rattle.probing.specs.declared.name.Name.{Name}
 use Rattle.probing.specs.declared.node.Node.{Node}
@@ -42,5 +43,8 @@ returns g c =
           (record { closed = closed M g.met.A.EffectAlgebra.lawful; tables_are = c.effect_tables.ensures; questions_are = c.question_tables.ensures })
           c.new.ensures.listed (c.new.ensures.width ∙ part c.args.names.now _ 32 c.min-facts.ensures) (omega arith) c.new-2.ensures.bare (c.new-2.ensures.width ∙ part c.args.nodes.now _ 65520 c.min-slots.ensures) c.new-2.ensures.recorded) c.new-3.ensures;
       nodes = c.new-2.ensures.blank ∙ ap (λ n. replicate n (free {K = Node} (record { fact = 0; low = 0; high = 0 }))) (part c.args.nodes.now _ 65520 c.min-slots.ensures);
-      names = c.new.ensures.blank ∙ ap (λ n. replicate n (free {K = Name} (record { len = 0; bytes = replicate 16 0 }))) (part c.args.names.now _ 32 c.min-facts.ensures);
+      names =
+          c.new.ensures.blank
+          ∙ ap (λ (x : Name). replicate (length (take (c.min-facts.result - 0) c.args.names.now)) (free x)) (blank_name c.default.result c.default.ensures)
+          ∙ ap (λ n. replicate n (free {K = Name} (record { len = 0; bytes = replicate 16 0 }))) (part c.args.names.now _ 32 c.min-facts.ensures);
     }

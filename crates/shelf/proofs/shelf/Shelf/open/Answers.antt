@@ -23,7 +23,7 @@ invariant_of-self c = record {
   stands = ∥∥₁_map c.args.self.now.stands (λ k.
       let u = k.1.1.1 in
       let m = may_open u (sym (c.in_ok-refuse_opening.ensures k.0 k.1.0 k.1.1.0 u)) in
-      (k.0, (k.1.0, (_, in_state (opened u c.empty-self.result c.empty-self.ensures.bare c.empty-self.ensures.unended m.0 m.1) (c.opened-self.ensures ∙ ap (opened_state c.args.self.now.state) c.held-held.ensures.number)))));
+      (k.0, (k.1.0, (_, in_state (opened u c.empty-self.result c.empty-self.ensures.bare c.empty-self.ensures.unended m.0 m.1) (c.open.ensures ∙ ap (opened_state c.args.self.now.state) c.held-held.ensures.number)))));
 }
 
 pub returns : goal.returns
@@ -35,8 +35,8 @@ returns c = record {
       let o = open_ok u t in (
         sym (ap given_out o.0),
         record {
-          stands = at_catalogue (in_state (opened u c.empty-self.result c.empty-self.ensures.bare c.empty-self.ensures.unended m.0 m.1) (c.opened-self.ensures ∙ ap (opened_state c.args.self.now.state) c.held-held.ensures.number)) o.1;
-          stay = λ p h k. kept_shapes _ _ p (ap (λ (s : State). s.filed) c.opened-self.ensures) (ap (λ (s : State). s.roots) c.opened-self.ensures);
+          stands = at_catalogue (in_state (opened u c.empty-self.result c.empty-self.ensures.bare c.empty-self.ensures.unended m.0 m.1) (c.open.ensures ∙ ap (opened_state c.args.self.now.state) c.held-held.ensures.number)) o.1;
+          stay = λ p h k. kept_shapes _ _ p (ap (λ (s : State). s.roots) c.open.ensures);
         },
       );
 }
