@@ -8,4 +8,4 @@ use Rattle.shelf.specs.declared.shelf.Shelf.{Shelf}
 
 -- the draft is the shelf's open one, at a catalogue that the shelf stands at
 abbrev pub Owns : Shelf → Draft → Type 0
-Owns s d = ∥ ((K : Codes) × ((Q : QuestionCodes) × ((c : Catalogue) × (Stands K Q s c × (own_open c d.shelf d.count ≡ true))))) ∥₁
+Owns s d = ∥ ((K : Codes) × ((Q : QuestionCodes) × ((c : Catalogue) × (Stands K Q s c × (own_open c d.id ≡ true))))) ∥₁

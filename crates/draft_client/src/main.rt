@@ -17,23 +17,6 @@ const FACULTY: Name = Name {
     bytes: *b"faculty\0\0\0\0\0\0\0\0\0",
 };
 
-const NO_NODE: Slot<Node> = Slot {
-    key: Node {
-        fact: 0,
-        low: 0,
-        high: 0,
-    },
-    serial: 0,
-};
-
-const NO_NAME: Slot<Name> = Slot {
-    key: Name {
-        len: 0,
-        bytes: [0; 16],
-    },
-    serial: 0,
-};
-
 // Gives a draft up. A shelf takes back its open draft and no other, and one that is handed back could not be let go: so
 // whoever calls this shows that it is the open one.
 fn give_up(shelf: &mut Shelf, draft: Draft)
@@ -76,17 +59,17 @@ fn finish(shelf: &mut Shelf, draft: Draft) -> Result<u8, Refusal>
 }
 
 // Offers a draft to a shelf that did not give it out, which hands it back, and then gives it up where it belongs. Answers
-// the number of the refusal.
-fn offer_elsewhere(home: &mut Shelf, other: &mut Shelf) -> Result<u8, Refusal> {
+// the refusal, if it was one.
+fn offer_elsewhere(home: &mut Shelf, other: &mut Shelf) -> Result<Option<Refusal>, Refusal> {
     let draft = begin(home)?;
     match other.feed(draft, &[0x10, 1]) {
         Ok((_, draft)) => {
             give_up(home, draft);
-            Ok(0)
+            Ok(None)
         }
         Err((refusal, draft)) => {
             give_up(home, draft);
-            Ok(refusal.number())
+            Ok(Some(refusal))
         }
     }
 }
@@ -116,14 +99,14 @@ fn print_policy(rt: &HostRuntime, shelf: &Shelf, policy: u8) -> anyhow::Result<(
 }
 
 fn run(rt: &HostRuntime) -> anyhow::Result<()> {
-    let mut nodes = [NO_NODE; 4];
-    let mut names = [NO_NAME; 1];
+    let mut nodes = [Slot::default(); 4];
+    let mut names = [Slot::default(); 1];
     let mut shelf = Shelf::make::<FourEffect>(7, &mut nodes, &mut names);
-    let mut no_nodes = [NO_NODE; 0];
-    let mut no_names = [NO_NAME; 0];
+    let mut no_nodes = [Slot::default(); 0];
+    let mut no_names = [Slot::default(); 0];
     let mut other = Shelf::make::<FourEffect>(8, &mut no_nodes, &mut no_names);
-    if let Ok(number) = offer_elsewhere(&mut shelf, &mut other) {
-        println!(rt; "elsewhere refused by {number}")?;
+    if let Ok(Some(refusal)) = offer_elsewhere(&mut shelf, &mut other) {
+        println!(rt; "elsewhere refused by {}", refusal.number())?;
     }
     let _ = shelf.declare(&FACULTY);
     match permit_faculty(&mut shelf) {

@@ -92,6 +92,7 @@ pub fn run_on<A: EffectAlgebra>(
     ensures blank { scratch.new ≡ replicate (length scratch.old) (free (record { first = 0; second = 0 })) }
 {
     let n = calls.len().min(log.len());
+    // By index: of a log that an iterator lends, a loop's invariant cannot say what was written (tried with `zip`).
     for i in 0..n {
         log[i] = turn(shelf, calls[i], scratch);
     }

@@ -103,7 +103,7 @@ fn too_long(rt: HostRuntime) -> Result<(), Fail> {
         &rt,
         &mut shelf,
         &[
-            (Call::Open, Said::Opened(7, 0)),
+            (Call::Open, Said::Opened(draft(7, 0))),
             (Call::Load(&PERMIT), Said::RefusedAt(20, 0)),
         ],
     );

@@ -7,44 +7,19 @@ use std::test::Fail;
 
 // Wants the six answers of the comparison, with a scratch of 0, 1, 3 and 64 slots.
 fn part(rt: &impl Abort, shelf: &Shelf, first: u8, second: u8, wanted: [Option<u32>; 6]) {
-    for question in 0..6u8 {
-        let answer = Ok(wanted[question as usize]);
-        compares(
-            rt,
-            shelf,
-            first,
-            second,
-            question,
-            &mut [OLD_PAIR; 0],
-            answer,
-        );
-        compares(
-            rt,
-            shelf,
-            first,
-            second,
-            question,
-            &mut [OLD_PAIR; 1],
-            answer,
-        );
-        compares(
-            rt,
-            shelf,
-            first,
-            second,
-            question,
-            &mut [OLD_PAIR; 3],
-            answer,
-        );
-        compares(
-            rt,
-            shelf,
-            first,
-            second,
-            question,
-            &mut [OLD_PAIR; 64],
-            answer,
-        );
+    for (question, answer) in (0..6u8).zip(wanted) {
+        for size in [0, 1, 3, 64] {
+            let mut scratch = [OLD_PAIR; 64];
+            compares(
+                rt,
+                shelf,
+                first,
+                second,
+                question,
+                &mut scratch[..size],
+                Ok(answer),
+            );
+        }
     }
 }
 

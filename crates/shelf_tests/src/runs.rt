@@ -3,22 +3,17 @@ use crate::support::*;
 use effects::FourEffect;
 use shelf::{Answer, Call, run};
 use std::process::Abort;
-use std::test::Fail;
 
 // Wants the answers of a log, one by one.
-fn logs(rt: &impl Abort, log: &[Answer], wanted: &[Said]) -> Result<(), Fail> {
+fn logs(rt: &impl Abort, log: &[Answer], wanted: &[Said]) {
     assert_eq!(rt; log.len(), wanted.len());
-    let mut n = 0usize;
-    for answer in log {
-        let said = wanted.get(n).copied().ok_or("too few")?;
-        assert_eq!(rt; heard(*answer), said, "answer {n}");
-        n = n.wrapping_add(1);
+    for (n, (answer, said)) in log.iter().zip(wanted).enumerate() {
+        assert_eq!(rt; Said::from(*answer), *said, "answer {n}");
     }
-    Ok(())
 }
 
 #[test]
-fn every_call(rt: HostRuntime) -> Result<(), Fail> {
+fn every_call(rt: HostRuntime) {
     let calls = [
         Call::Declare(STUDENT),
         Call::Declare(FACULTY),
@@ -26,11 +21,11 @@ fn every_call(rt: HostRuntime) -> Result<(), Fail> {
         Call::Find(ASSIGN),
         Call::Load(&TAPE_A),
         Call::Open,
-        Call::Feed(7, 0, &[0x10, 2]),
-        Call::Feed(7, 0, &[0x1F]),
-        Call::File(7, 0),
+        Call::Feed(draft(7, 0), &[0x10, 2]),
+        Call::Feed(draft(7, 0), &[0x1F]),
+        Call::File(draft(7, 0)),
         Call::Open,
-        Call::Abandon(7, 1),
+        Call::Abandon(draft(7, 1)),
         Call::Ask(0, 2),
         Call::Shape(1),
         Call::Compare(0, 1, 0),
@@ -55,11 +50,11 @@ fn every_call(rt: HostRuntime) -> Result<(), Fail> {
             Said::Fact(1),
             Said::Unknown,
             Said::Loaded(0, 1),
-            Said::Opened(7, 0),
+            Said::Opened(draft(7, 0)),
             Said::Took(2),
             Said::Took(1),
             Said::Filed(1),
-            Said::Opened(7, 1),
+            Said::Opened(draft(7, 1)),
             Said::Abandoned,
             Said::Code(1),
             Said::Shaped(2),
@@ -69,12 +64,12 @@ fn every_call(rt: HostRuntime) -> Result<(), Fail> {
             Said::Refused(50),
             Said::RefusedAt(32, 5),
         ],
-    )
+    );
 }
 
 // As many calls are run as the log has room for.
 #[test]
-fn a_short_log(rt: HostRuntime) -> Result<(), Fail> {
+fn a_short_log(rt: HostRuntime) {
     let calls = [
         Call::Load(&PERMIT),
         Call::Ask(0, 0),
@@ -88,12 +83,12 @@ fn a_short_log(rt: HostRuntime) -> Result<(), Fail> {
     let n = run::<FourEffect>(7, &mut nodes, &mut names, &calls, &mut scratch, &mut log);
     assert_eq!(rt; n, 2);
     assert!(rt; are_blank(&scratch));
-    logs(&rt, &log, &[Said::Loaded(0, 0), Said::Code(1)])
+    logs(&rt, &log, &[Said::Loaded(0, 0), Said::Code(1)]);
 }
 
 // What a log has beyond the calls is left as it was.
 #[test]
-fn a_long_log(rt: HostRuntime) -> Result<(), Fail> {
+fn a_long_log(rt: HostRuntime) {
     let calls = [Call::Load(&PERMIT)];
     let mut nodes = [OLD_NODE; 1];
     let mut names = [OLD_NAME; 1];
@@ -106,7 +101,7 @@ fn a_long_log(rt: HostRuntime) -> Result<(), Fail> {
         &rt,
         &log,
         &[Said::Loaded(0, 0), Said::Fact(9), Said::Fact(9)],
-    )
+    );
 }
 
 // The scratch is left blank where no call used it.

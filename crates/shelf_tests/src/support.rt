@@ -4,7 +4,7 @@ use probing::Slot;
 use probing::name::Name;
 use probing::node::Node;
 use probing::pair::Pair;
-use shelf::{Answer, Call, Shelf, run_on};
+use shelf::{Answer, Call, DraftId, Shelf, run_on};
 use std::process::Abort;
 use std::test::Fail;
 
@@ -67,7 +67,7 @@ pub const PERMIT: [u8; 3] = *b"\x10\x01\x1F";
 pub enum Said {
     Fact(u8),
     Unknown,
-    Opened(u32, u32),
+    Opened(DraftId),
     Took(usize),
     Filed(u8),
     Abandoned,
@@ -81,39 +81,44 @@ pub enum Said {
     RefusedAt(u8, usize),
 }
 
-pub fn heard(answer: Answer) -> Said {
-    match answer {
-        Answer::Fact(fact) => Said::Fact(fact),
-        Answer::Unknown => Said::Unknown,
-        Answer::Opened(shelf, count) => Said::Opened(shelf, count),
-        Answer::Took(taken) => Said::Took(taken),
-        Answer::Filed(policy) => Said::Filed(policy),
-        Answer::Abandoned => Said::Abandoned,
-        Answer::Loaded(policy, held) => Said::Loaded(policy, held),
-        Answer::Code(code) => Said::Code(code),
-        Answer::Shaped(number) => Said::Shaped(number),
-        Answer::Kept => Said::Kept,
-        Answer::Witness(request) => Said::Witness(request),
-        Answer::Holding(held) => Said::Holding(held),
-        Answer::Refused(refusal) => Said::Refused(refusal.number()),
-        Answer::RefusedThere(at) => Said::RefusedAt(at.refusal.number(), at.place),
+// The numbers are what a client sees, so the tests say them, and not the refusals that have them.
+impl From<Answer> for Said {
+    fn from(answer: Answer) -> Said {
+        match answer {
+            Answer::Fact(fact) => Said::Fact(fact),
+            Answer::Unknown => Said::Unknown,
+            Answer::Opened(id) => Said::Opened(id),
+            Answer::Took(taken) => Said::Took(taken),
+            Answer::Filed(policy) => Said::Filed(policy),
+            Answer::Abandoned => Said::Abandoned,
+            Answer::Loaded(policy, held) => Said::Loaded(policy, held),
+            Answer::Code(code) => Said::Code(code),
+            Answer::Shaped(number) => Said::Shaped(number),
+            Answer::Kept => Said::Kept,
+            Answer::Witness(request) => Said::Witness(request),
+            Answer::Holding(held) => Said::Holding(held),
+            Answer::Refused(refusal) => Said::Refused(refusal.number()),
+            Answer::RefusedThere(at) => Said::RefusedAt(at.refusal.number(), at.place),
+        }
     }
+}
+
+// A draft by its two numbers.
+pub fn draft(shelf: u32, count: u32) -> DraftId {
+    DraftId { shelf, count }
 }
 
 // What a shelf of the algebra A answers to a call.
 fn told<A: EffectAlgebra>(shelf: &mut Shelf, call: Call) -> Said {
     let mut log = [Answer::Unknown];
     run_on::<A>(shelf, &[call], &mut [OLD_PAIR; 2], &mut log);
-    heard(log[0])
+    Said::from(log[0])
 }
 
 // Makes the calls of a script one by one, and wants their answers.
 pub fn follows<A: EffectAlgebra>(rt: &impl Abort, shelf: &mut Shelf, script: &[(Call, Said)]) {
-    let mut n = 0usize;
-    for step in script {
-        let (call, wanted) = *step;
-        assert_eq!(rt; told::<A>(shelf, call), wanted, "call {n} of the script");
-        n = n.wrapping_add(1);
+    for (n, (call, wanted)) in script.iter().enumerate() {
+        assert_eq!(rt; told::<A>(shelf, *call), *wanted, "call {n} of the script");
     }
 }
 
@@ -125,12 +130,7 @@ pub fn declare_three(rt: &impl Abort, shelf: &mut Shelf) {
 }
 
 pub fn are_blank(scratch: &[Slot<Pair>]) -> bool {
-    for slot in scratch {
-        if slot.key.first != 0 || slot.key.second != 0 || slot.serial != 0 {
-            return false;
-        }
-    }
-    true
+    scratch.iter().all(|slot| *slot == Slot::default())
 }
 
 // A name of two letters, another one for each number.
