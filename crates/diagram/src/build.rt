@@ -56,7 +56,8 @@ impl Store<'_> {
         self.test(sides.fact, low, high)
     }
 
-    // The code of 1 where every, or any, fact of the mask from `from` on is present, built from the highest fact down.
+    // The code of 1 where every, or any, fact of the mask from `from` on is present, built from the highest fact down. Which
+    // of the two is a flag: a closure for the one line in which they differ would have to say in a clause what it builds.
     fn ladder(&mut self, mask: u32, every: bool, from: u8) -> Result<u16, Full>
         requires below { from ≤ 32 }
         ensures width { slots self.new ≡ slots self.old }
@@ -77,7 +78,8 @@ impl Store<'_> {
         }
     }
 
-    // The code of 1 where every, or any, fact of the mask is present; refused with the store as it was.
+    // The code of 1 where every, or any, fact of the mask is present; refused with the store as it was. `apply` undoes in the
+    // same three lines, which a function over both would not make shorter.
     fn of_mask(&mut self, mask: u32, every: bool) -> Result<u16, Full>
         ensures gives { (F : ℕ → ℕ) → Same 32 (says (ladder_of every mask 32 0)) F → Outcome self.old F self.new result }
     {

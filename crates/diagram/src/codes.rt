@@ -1,10 +1,10 @@
 // What codes mean.
-ghost use Rattle.std.specs.Prelude.{◌≡◌, ℕ, ◌+◌, ◌<◌, ◌≤◌, ◌⊎◌, List, [], length, replicate, Decides};
-ghost use Rattle.probing.specs.Table.{free};
+ghost use Rattle.std.specs.Prelude.{◌≡◌, ℕ, ◌+◌, ◌<◌, ◌≤◌, ◌⊎◌, List, [], length, Decides};
+ghost use Rattle.probing.specs.Table.{wiped};
 ghost use Rattle.diagram.specs.Cofactors.{count as cofactor_count};
 ghost use Rattle.diagram.specs.Counted.{Same, Ignores, Each};
 ghost use Rattle.diagram.specs.Tree.{Neat};
-ghost use Rattle.diagram.specs.Nodes.{meant, node_of};
+ghost use Rattle.diagram.specs.Nodes.{meant, no_node, node_of};
 ghost use Rattle.diagram.specs.Building.{Top, Sided, Parted};
 ghost use Rattle.diagram.specs.Stores.{nodes, held as held_by, slots as slots_of, meaning, Recorded, Means, Back};
 
@@ -20,7 +20,7 @@ impl<'a> Store<'a> {
         ensures bare { held_by result ≡ 0 }
         ensures width { slots_of result ≡ length slots.old }
         ensures recorded { Recorded result 0 [] }
-        ensures blank { result.unique.slots.now ≡ replicate (length slots.old) (free (record { fact = 0; low = 0; high = 0 })) }
+        ensures blank { result.unique.slots.now ≡ wiped no_node slots.old }
     {
         Store {
             unique: Table::new(slots, Node::default()),

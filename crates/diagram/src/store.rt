@@ -14,7 +14,8 @@ pub(crate) const FACTS: u8 = 32;
 pub struct Full;
 
 // Decision diagrams that share their nodes: one node a slot, each once, in the order in which they came.
-// A code below 16 is a constant, and 16 + i names node i. A node's children are older than the node.
+// A code below 16 is a constant, and 16 + i names node i. A node's children are older than the node. A code is no enum, and
+// a child no Box: there is no heap, and two codes and a fact have to fit the slot of a node.
 #[derive(Drop)]
 pub struct Store<'a> {
     pub(crate) unique: Table<'a, Node>,

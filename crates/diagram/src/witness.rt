@@ -1,7 +1,8 @@
 // The first request at which two diagrams break a question.
-ghost use Rattle.std.specs.Prelude.{◌≡◌, ℕ, ◌+◌, ◌<◌, ◌≤◌, length, replicate};
+ghost use Rattle.std.specs.Prelude.{◌≡◌, ℕ, ◌+◌, ◌<◌, ◌≤◌};
 ghost use Rattle.probing.specs.Model.{keys};
-ghost use Rattle.probing.specs.Table.{free};
+ghost use Rattle.probing.specs.Kinds.{no_pair};
+ghost use Rattle.probing.specs.Table.{wiped};
 ghost use Rattle.diagram.specs.Counted.{Same, Ignores};
 ghost use Rattle.diagram.specs.Requests.{Witness};
 ghost use Rattle.diagram.specs.Tree.{says, Neat};
@@ -88,7 +89,7 @@ impl Store<'_> {
     ) -> Option<u32>
         ensures first { Witness 32 (Breaks question.now (meaning self.now first) (meaning self.now second)) result }
         ensures facts { (n : ℕ) (F G : ℕ → ℕ) → n ≤ 32 → Ignores n F → Ignores n G → Same 32 (meaning self.now first) F → Same 32 (meaning self.now second) G → Witness n (Breaks question.now F G) result }
-        ensures blank { scratch.new ≡ replicate (length scratch.old) (free (record { first = 0; second = 0 })) }
+        ensures blank { scratch.new ≡ wiped no_pair scratch.old }
     {
         let guard = Guard {
             slots: scratch,

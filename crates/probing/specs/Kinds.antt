@@ -34,6 +34,10 @@ node_same x y = x.fact == y.fact && (x.low == y.low && x.high == y.high)
 abbrev pub node_hashed : Node → ℕ
 node_hashed x = mixed (x.low + 65536 * (x.high + 65536 * x.fact))
 
+-- a pair for slots that hold none
+abbrev pub no_pair : Pair
+no_pair = record { first = 0; second = 0 }
+
 -- Two pairs are the same where both codes are.
 abbrev pub pair_same : Pair → Pair → Bool
 pair_same x y = x.first == y.first && x.second == y.second

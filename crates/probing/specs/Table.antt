@@ -1,5 +1,5 @@
 -- What a table's slots mean: a list of keys, and beside it a list of serials, which are the buckets.
-use Rattle.std.specs.Prelude.{◌≡◌, ℕ, zero, suc, ◌+◌, ◌-◌, ◌%◌, ◌<◌, ◌≤◌, Bool, true, false, cond, List, [], ◌∷◌, ◌++◌, map, length, take, Some, None, Option, ◌==◌, nat_le, nat_lt, slice_index, slice_index_or}
+use Rattle.std.specs.Prelude.{◌≡◌, ℕ, zero, suc, ◌+◌, ◌-◌, ◌%◌, ◌<◌, ◌≤◌, Bool, true, false, cond, List, [], ◌∷◌, ◌++◌, map, length, take, replicate, Some, None, Option, ◌==◌, nat_le, nat_lt, slice_index, slice_index_or}
 use Rattle.probing.specs.declared.Slot.{Slot}
 
 -- x stands at place i of xs
@@ -17,6 +17,10 @@ serials {K} ss = map (λ (s : Slot K). s.serial) ss
 -- a slot with nothing in it
 abbrev pub free : {K : Type 0} → K → Slot K
 free blank = record { key = blank; serial = 0 }
+
+-- as many slots, with nothing in them
+abbrev pub wiped : {K : Type 0} → K → List (Slot K) → List (Slot K)
+wiped blank ss = replicate (length ss) (free blank)
 
 -- the place of the first bucket with serial m
 abbrev pub spot : List ℕ → ℕ → ℕ

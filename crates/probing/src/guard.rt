@@ -1,6 +1,6 @@
 // A guard over scratch slots that leaves them blank.
-ghost use Rattle.std.specs.Prelude.{◌≡◌, length, replicate};
-ghost use Rattle.probing.specs.Table.{free};
+ghost use Rattle.std.specs.Prelude.{◌≡◌};
+ghost use Rattle.probing.specs.Table.{wiped};
 
 use crate::Slot;
 use crate::table::wipe;
@@ -14,7 +14,7 @@ pub struct Guard<'a, K: Copy> {
 
 impl<K: Copy> Drop for Guard<'_, K> {
     fn drop(self)
-        ensures { self.exit.0.now ≡ replicate (length self.entry.slots.now) (free self.entry.blank) }
+        ensures { self.exit.0.now ≡ wiped self.entry.blank self.entry.slots.now }
     {
         let Guard { slots, blank } = self;
         wipe(slots, blank);

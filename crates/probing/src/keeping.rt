@@ -1,6 +1,6 @@
 // What a table does.
-ghost use Rattle.std.specs.Prelude.{◌≡◌, ℕ, ◌+◌, ◌-◌, ◌<◌, ◌≤◌, [], map, length, take, drop, replicate, slice_index, slice_set};
-ghost use Rattle.probing.specs.Table.{Distinct, Near, Sought, gap, serials, stored, free, number_of, numbered, grown, nth, trimmed};
+ghost use Rattle.std.specs.Prelude.{◌≡◌, ℕ, ◌+◌, ◌-◌, ◌<◌, ◌≤◌, [], map, length, take, drop, slice_index, slice_set};
+ghost use Rattle.probing.specs.Table.{Distinct, Near, Sought, gap, serials, stored, wiped, number_of, numbered, grown, nth, trimmed};
 ghost use Rattle.probing.specs.Model.{keys, kept, room};
 
 use crate::table::Table;
@@ -33,14 +33,19 @@ fn seek<K: Key>(slots: &[Slot<K>], key: &K) -> Option<usize>
         return None;
     }
     let home = key.hash() as usize % n;
-    for probed in 0..n {
+    let mut probed = 0;
+    // A loop, since that is the project's form for a search: every way out of it yields its answer by `break`.
+    loop {
         let i = round(n, home, probed);
         let serial = slots[i].serial as usize;
         if serial == 0 || slots[serial - 1].key == *key {
-            return Some(i);
+            break Some(i);
+        }
+        probed += 1;
+        if probed == n {
+            break None;
         }
     }
-    None
 }
 
 // Frees every bucket that leads to number n or more, in one pass.
@@ -68,7 +73,7 @@ fn put<K: Copy>(slots: &mut [Slot<K>], number: usize, bucket: usize, key: K)
 
 // Every slot with the blank key and a free bucket.
 pub fn wipe<K: Copy>(slots: &mut [Slot<K>], blank: K)
-    ensures { slots.new ≡ replicate (length slots.old) (free blank) }
+    ensures { slots.new ≡ wiped blank slots.old }
 {
     for slot in slots.iter_mut() {
         *slot = Slot {
@@ -83,7 +88,7 @@ impl<'a, K: Key> Table<'a, K> {
     pub fn new(slots: &'a mut [Slot<K>], blank: K) -> Self
         requires { length slots.old < 65536 }
         ensures listed { keys result ≡ [] }
-        ensures blank { result.slots.now ≡ replicate (length slots.old) (free blank) }
+        ensures blank { result.slots.now ≡ wiped blank slots.old }
         ensures width { room result ≡ length slots.old }
     {
         wipe(slots, blank);

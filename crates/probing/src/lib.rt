@@ -27,7 +27,8 @@ pub trait Key: Copy + Eq {
 }
 
 // A slot has two fields that stand side by side and do not belong together: the key of slot n is that of number n,
-// and the serial of slot h is bucket h, which is free at 0 and else leads to the key whose number is one less.
+// and the serial of slot h is bucket h, which is free at 0 and else leads to the key whose number is one less. A serial is
+// no Option: slots are lent memory of a fixed layout, in which zero means free.
 #[derive(Clone, Copy, PartialEq, Eq, Debug, Default)]
 pub struct Slot<K> {
     pub key: K,

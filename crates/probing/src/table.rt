@@ -4,9 +4,8 @@
 // that it leads to. A search starts at the bucket that the key's hash names, and goes on from bucket to bucket and round.
 ghost use Rattle.probing.specs.Table.{Whole};
 
-use crate::{Key, Slot};
-
 pub use crate::keeping::wipe;
+use crate::{Key, Slot};
 
 // Keys with numbers 0, 1, 2 and on, in the order in which they came, over slots that a caller lends.
 #[derive(Drop)]

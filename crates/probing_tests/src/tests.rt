@@ -1,6 +1,7 @@
 // What the crate does on examples.
-ghost use Rattle.std.specs.Prelude.{◌≡◌, ◌<◌, length, replicate, ◌==◌};
-ghost use Rattle.probing.specs.Table.{free};
+ghost use Rattle.std.specs.Prelude.{◌≡◌, ◌<◌, length, ◌==◌};
+ghost use Rattle.probing.specs.Kinds.{no_pair};
+ghost use Rattle.probing.specs.Table.{wiped};
 ghost use Rattle.std.proofs.Common.{rules};
 
 use probing::guard::Guard;
@@ -126,7 +127,7 @@ fn names(rt: HostRuntime) {
 
 // Keeps a pair and its mirror image in a table over the front of the scratch.
 fn mirrored(scratch: &mut [Slot<Pair>], pair: Pair) -> Option<usize>
-    ensures { scratch.new ≡ replicate (length scratch.old) (free (record { first = 0; second = 0 })) }
+    ensures { scratch.new ≡ wiped no_pair scratch.old }
 {
     let guard = Guard {
         slots: scratch,

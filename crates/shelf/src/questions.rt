@@ -1,7 +1,8 @@
 // What is asked of filed policies: ask, shape and compare; and held.
-ghost use Rattle.std.specs.Prelude.{◌≡◌, length, replicate};
+ghost use Rattle.std.specs.Prelude.{◌≡◌};
 ghost use Rattle.effects.specs.Codes.{Codes, QuestionCodes};
-ghost use Rattle.probing.specs.Table.{free};
+ghost use Rattle.probing.specs.Kinds.{no_pair};
+ghost use Rattle.probing.specs.Table.{wiped};
 ghost use Rattle.shelf.specs.Catalogue.{Catalogue, held as held_at};
 ghost use Rattle.shelf.specs.Calls.{ask_answer, shape_answer, Compares};
 ghost use Rattle.shelf.specs.Stands.{Stands, numbering, asking, shaping, holding, Comparing};
@@ -51,7 +52,7 @@ impl Shelf<'_> {
     ) -> Result<Option<u32>, Refusal>
         ensures says { Comparing self.now first second question result }
         ensures stands { (K : Codes) (Q : QuestionCodes) (c : Catalogue) → Stands K Q self.now c → Compares K Q c first second question result }
-        ensures blank { scratch.new ≡ replicate (length scratch.old) (free (record { first = 0; second = 0 })) }
+        ensures blank { scratch.new ≡ wiped no_pair scratch.old }
     {
         let guard = Guard {
             slots: scratch,

@@ -1,7 +1,8 @@
 // A list of calls, run on a shelf.
-ghost use Rattle.std.specs.Prelude.{◌≡◌, min, length, take, drop, replicate, Ok, Err};
+ghost use Rattle.std.specs.Prelude.{◌≡◌, min, length, take, drop, Ok, Err};
 ghost use Rattle.effects.specs.Codes.{Codes, QuestionCodes, codes, question_codes};
-ghost use Rattle.probing.specs.Table.{free};
+ghost use Rattle.probing.specs.Kinds.{no_pair};
+ghost use Rattle.probing.specs.Table.{wiped};
 ghost use Rattle.shelf.specs.Catalogue.{Catalogue};
 ghost use Rattle.shelf.specs.Stands.{Stands, Lent, Moved, numbering};
 ghost use Rattle.shelf.specs.Law.{Answered, after, Runs, Lawful};
@@ -89,7 +90,7 @@ pub fn run_on<A: EffectAlgebra>(
     ensures many { result ≡ min (length calls.now) (length log.old) }
     ensures law { (c : Catalogue) → Stands (codes A.EffectAlgebra.effects) (question_codes A.EffectAlgebra.effects A.EffectAlgebra.questions) shelf.old c → ((d : Catalogue) × Runs A.EffectAlgebra.effects A.EffectAlgebra.questions shelf.old c (take result calls.now) (take result log.new) shelf.new d) }
     ensures beyond { drop result log.new ≡ drop result log.old }
-    ensures blank { scratch.new ≡ replicate (length scratch.old) (free (record { first = 0; second = 0 })) }
+    ensures blank { scratch.new ≡ wiped no_pair scratch.old }
 {
     let n = calls.len().min(log.len());
     // By index: of a log that an iterator lends, a loop's invariant cannot say what was written (tried with `zip`).
@@ -113,7 +114,7 @@ pub fn run<A: EffectAlgebra>(
     ensures many { result ≡ min (length calls.now) (length log.old) }
     ensures law { Lawful A.EffectAlgebra.effects A.EffectAlgebra.questions number (length nodes.old) (length names.old) (take result calls.now) (take result log.new) }
     ensures beyond { drop result log.new ≡ drop result log.old }
-    ensures blank { scratch.new ≡ replicate (length scratch.old) (free (record { first = 0; second = 0 })) }
+    ensures blank { scratch.new ≡ wiped no_pair scratch.old }
 {
     let mut shelf = Shelf::make::<A>(number, nodes, names);
     run_on::<A>(&mut shelf, calls, scratch, log)

@@ -129,7 +129,10 @@ fn one_command(rt: HostRuntime) {
             (Call::Feed(draft(7, 0), &[]), Said::Refused(31)),
             (Call::Feed(draft(7, 0), &[0x03, 7, 0, 0]), Said::Refused(31)),
             (Call::Feed(draft(7, 0), &[0x10, 1, 0xFF]), Said::Took(2)),
-            (Call::Feed(draft(7, 0), &[0x03, 7, 0, 0, 0, 0x1F]), Said::Took(5)),
+            (
+                Call::Feed(draft(7, 0), &[0x03, 7, 0, 0, 0, 0x1F]),
+                Said::Took(5),
+            ),
             (Call::Feed(draft(7, 0), &[0x11, 0x00, 0x00]), Said::Took(1)),
             (Call::Feed(draft(7, 0), &[0x00]), Said::Refused(30)),
             (Call::Feed(draft(7, 0), &[0x1F, 0x1F]), Said::Took(1)),
