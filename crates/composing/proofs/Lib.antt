@@ -1,3 +1,3 @@
-pub mod Digits
 pub mod Loading
 pub mod Lines
+pub mod Digits

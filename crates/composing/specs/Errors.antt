@@ -6,4 +6,4 @@ use Rattle.composing.specs.declared.error.ComposeError.TheVariants.{Unreadable, 
 -- the words for an error
 abbrev pub told : ComposeError → List ℕ
 told (Unreadable line) = codes "line " ++ (decimal line ++ codes ": cannot be read")
-told OutOfMemory = codes "out of memory"
+told OutOfMemory = codes "memory allocation failed"

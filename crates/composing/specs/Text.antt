@@ -1,5 +1,5 @@
 -- What a whole text composes to.
-use Rattle.std.specs.Prelude.{◌≡◌, ℕ, ◌+◌, List, [], ◌∷◌, ◌++◌, Some, None, Ok, Err, vec_items, Option, Result}
+use Rattle.std.specs.Prelude.{◌≡◌, ℕ, ◌+◌, List, [], ◌∷◌, ◌++◌, Some, None, Ok, Err, Option, Result}
 use Rattle.composing.specs.Pieces.{lines_of, words_of}
 use Rattle.composing.specs.Commands.{command_of}
 use Rattle.composing.specs.declared.error.ComposeError.{ComposeError}

@@ -1,21 +1,12 @@
 // From the words of a line to the bytes of a job command.
-ghost use Rattle.std.specs.Prelude.{◌≡◌, ◌++◌, IfOk};
+ghost use Rattle.std.specs.Prelude.{◌≡◌};
 ghost use Rattle.composing.specs.Numerals.{decimal_in};
 ghost use Rattle.composing.specs.Pieces.{texts};
 ghost use Rattle.composing.specs.Commands.{declare_job, load_job, compare_job, ask_job, command_of, Adds};
 
 use crate::error::ComposeError;
-use crate::numerals::{byte_in_hex, decimal};
+use crate::numerals::{byte_in_hex, decimal, decimal_byte};
 use crate::verb::Verb;
-
-// The first bytes of job commands.
-const DECLARE: u8 = 0x40;
-
-const LOAD: u8 = 0x41;
-
-const COMPARE: u8 = 0x42;
-
-const ASK: u8 = 0x43;
 
 // The most bytes of a name.
 const LONGEST_NAME: usize = 16;
@@ -23,18 +14,20 @@ const LONGEST_NAME: usize = 16;
 fn compare(first: &[u8], second: &[u8], question: &[u8]) -> Option<[u8; 4]>
     ensures { result ≡ compare_job (decimal_in 255 first.now) (decimal_in 255 second.now) (decimal_in 255 question.now) }
 {
-    let first = decimal(first, 255)?;
-    let second = decimal(second, 255)?;
-    let question = decimal(question, 255)?;
-    Some([COMPARE, first as u8, second as u8, question as u8])
+    Some([
+        Verb::Compare as u8,
+        decimal_byte(first)?,
+        decimal_byte(second)?,
+        decimal_byte(question)?,
+    ])
 }
 
 fn ask(policy: &[u8], request: &[u8]) -> Option<[u8; 6]>
     ensures { result ≡ ask_job (decimal_in 255 policy.now) (decimal_in 4294967295 request.now) }
 {
-    let policy = decimal(policy, 255)?;
-    let [a, b, c, d] = decimal(request, u32::MAX)?.to_le_bytes();
-    Some([ASK, policy as u8, a, b, c, d])
+    let policy = decimal_byte(policy)?;
+    let [a, b, c, d] = decimal(request)?.to_le_bytes();
+    Some([Verb::Ask as u8, policy, a, b, c, d])
 }
 
 // Adds the declare of a line to a job. So do the other ones with what they are given.
@@ -44,7 +37,7 @@ fn push_declare(job: &mut Vec<u8>, line: usize, name: &[u8]) -> Result<(), Compo
     if name.len() > LONGEST_NAME {
         return Err(ComposeError::Unreadable(line));
     }
-    job.extend_from_slice(&[DECLARE, name.len() as u8])?;
+    job.extend_from_slice(&[Verb::Declare as u8, name.len() as u8])?;
     job.extend_from_slice(name)?;
     job.resize(job.len() + LONGEST_NAME - name.len(), 0)?;
     Ok(())
@@ -58,7 +51,7 @@ fn push_load(job: &mut Vec<u8>, line: usize, words: &[&[u8]]) -> Result<(), Comp
         return Err(unreadable);
     };
     let [low, high] = length.to_le_bytes();
-    job.extend_from_slice(&[LOAD, low, high])?;
+    job.extend_from_slice(&[Verb::Load as u8, low, high])?;
     for word in words {
         job.push(byte_in_hex(word).ok_or(unreadable)?)?;
     }

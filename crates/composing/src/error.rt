@@ -20,7 +20,7 @@ impl fmt::Display for ComposeError {
     fn fmt<W: fmt::Write>(&self, f: &mut fmt::Formatter<W>) -> fmt::Result {
         match *self {
             ComposeError::Unreadable(line) => write!(f, "line {line}: cannot be read"),
-            ComposeError::OutOfMemory => write!(f, "out of memory"),
+            ComposeError::OutOfMemory => write!(f, "memory allocation failed"),
         }
     }
 }
@@ -31,14 +31,14 @@ impl From<AllocError> for ComposeError {
     ghost from_gives = { λ _ error. error ≡ OutOfMemory };
 
     fn from(_: AllocError) -> ComposeError {
-        ComposeError::OutOfMemory
+        Self::OutOfMemory
     }
 }
 
 impl<T: Drop> From<AllocFailed<T>> for ComposeError {
     ghost from_gives = { λ _ error. error ≡ OutOfMemory };
 
-    fn from(_: AllocFailed<T>) -> ComposeError {
-        ComposeError::OutOfMemory
+    fn from(failed: AllocFailed<T>) -> ComposeError {
+        AllocError::from(failed).into()
     }
 }

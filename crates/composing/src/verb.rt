@@ -1,13 +1,13 @@
-// The commands of the text form, by their first word.
+// The commands of a job, by their first word in the text form and by their first byte.
 ghost use Rattle.std.specs.Prelude.{◌≡◌};
 ghost use Rattle.composing.specs.Commands.{verb_of};
 
 #[derive(Clone, Copy)]
 pub(crate) enum Verb {
-    Declare,
-    Load,
-    Compare,
-    Ask,
+    Declare = 0x40,
+    Load = 0x41,
+    Compare = 0x42,
+    Ask = 0x43,
 }
 
 impl Verb {

@@ -1,9 +1,8 @@
-use Rattle.std.proofs.Common.{◌≡◌, ℕ, ◌+◌, ◌≤◌, ◌++◌, ◌∷◌, [], None, Some, Err, List, Bor, length, drop, get_or, vec_items, Option, sym, refl, ap, ◌∙◌, append_assoc, append-nil, rules, arith, drop_of_length-le}
+use Rattle.std.proofs.Common.{◌≡◌, ℕ, ◌+◌, ◌≤◌, ◌++◌, ◌∷◌, None, Some, List, Bor, length, drop, get_or, vec_items, sym, refl, ap, ◌∙◌, append_assoc, append-nil, arith, drop_of_length-le}
 use Rattle.std.specs.Int.{w16, to_le_bytes}
 use Rattle.std.specs.Option.{option_map}
 use Rattle.std.proofs.lemmas.Result.{err_from_is_err_and}
 use Rattle.composing.proofs.Loading.{read_none, read_more, from_word, loads}
-use Rattle.composing.specs.Numerals.{hex_byte}
 use Rattle.composing.specs.Pieces.{texts}
 use Rattle.composing.specs.Commands.{before, tape_of}
 use Rattle.composing.specs.declared.error.ComposeError.TheVariants.{Unreadable}

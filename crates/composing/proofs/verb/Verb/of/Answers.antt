@@ -1,4 +1,4 @@
-use Rattle.std.proofs.Common.{◌≡◌, codes, rules, sym, ap, arith}
+use Rattle.std.proofs.Common.{codes, rules, sym, ap, arith}
 use Rattle.std.proofs.lemmas.Slice.Eq.{text_from_reads}
 use Rattle.composing.specs.Commands.{verb_of}
 use Rattle.composing.proofs.verb.Verb.of.Goals as goal
