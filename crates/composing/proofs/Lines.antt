@@ -1,7 +1,14 @@
 -- A text as it is composed, one line after another.
-use Rattle.std.proofs.Common.{◌≡◌, ℕ, suc, ◌+◌, ◌<◌, ◌≤◌, List, [], ◌∷◌, ◌++◌, length, get_or, drop, Some, None, Ok, Err, Option, Result, sym, refl, ap, ◌∙◌, append_assoc, append-nil, add-one, drop_of_length-le, drop-cons}
+use Rattle.std.proofs.Common.{◌≡◌, ℕ, suc, ◌+◌, ◌<◌, ◌≤◌, List, [], ◌∷◌, ◌++◌, length, get_or, drop, Some, None, Ok, Err, Option, Result, Bool, false, Bor, sym, refl, ap, ◌∙◌, append_assoc, append-nil, add-one, drop_of_length-le, drop-cons}
+use Rattle.std.specs.Fn.{CalledAt}
+use Rattle.std.specs.Iterator.Adapters.{enumerate_source, enumerate_count, enumerate_steps}
 use Rattle.std.specs.List.{enumerate_from}
-use Rattle.composing.specs.Pieces.{words_of}
+use Rattle.std.specs.Slice.Iter.{split_rest, split_done, split_callee, split_steps}
+use Rattle.std.proofs.lemmas.Iterator.{YieldsList}
+use Rattle.std.proofs.lemmas.Iterator.Consumers.{YieldsList-at, YieldsList-from_enumerate}
+use Rattle.std.proofs.lemmas.Iterator.Splits.{YieldsList-from_slice_split}
+use denote.Param.Members.{Mut}
+use Rattle.composing.specs.Pieces.{is_line_feed, lines_of, words_of}
 use Rattle.composing.specs.Commands.{command_of, Adds}
 use Rattle.composing.specs.Text.{in_front, line_then, job_of, Says}
 use Rattle.composing.specs.declared.error.ComposeError.{ComposeError}
@@ -54,3 +61,7 @@ stopped lines k line words error job job' h e w a inv = rw (inv, at_line lines k
 
 pub done_all : (lines : List (ℕ × List ℕ)) (k : ℕ) (job : List ℕ) → length lines ≤ k → Done lines k job → job_at lines ≡ Ok job
 done_all lines k job h inv = inv ∙ ap (λ ls. in_front job (job_at ls)) (drop_of_length-le lines h) ∙ ap Ok (append-nil job)
+
+-- what a loop over the lines of a text meets, each with how many stand before it
+pub numbered : {F : Type 0} {f : F} {cut : _} {lines s : _} (g : Mut F (Bor ℕ × Unit {0}) Bool) (text : List ℕ) → s ≡ lines → enumerate_source lines ≡ cut → enumerate_count lines ≡ 0 → split_rest cut ≡ text → split_done cut ≡ false → split_callee cut ≡ f → ((x : ℕ) (b : Bool) (q : F) → CalledAt g f x b q → (q ≡ f) × (b ≡ is_line_feed x)) → YieldsList {B = ℕ × List ℕ} (enumerate_steps (split_steps g)) (λ p. (p.0, p.1.now)) s (enumerate_from 0 (lines_of text))
+numbered g text e s n r d c k = YieldsList-at e (YieldsList-from_enumerate (YieldsList-at s (YieldsList-from_slice_split g is_line_feed text r d c k)) n)

@@ -4,12 +4,12 @@ use Rattle.std.proofs.lemmas.Result.{err_from_is_err_and}
 use Rattle.std.proofs.lemmas.Iterator.Consumers.{YieldsList-at, YieldsList-from_enumerate, YieldsList-turn, YieldsList-end}
 use Rattle.std.proofs.lemmas.Iterator.Splits.{YieldsList-from_slice_split}
 use Rattle.composing.specs.Pieces.{is_line_feed, lines_of, texts}
-use Rattle.composing.proofs.Lines.{job_at-enumerate_from, done_more, stopped, done_all}
+use Rattle.composing.proofs.Lines.{numbered, job_at-enumerate_from, done_more, stopped, done_all}
 use Rattle.composing.proofs.texts.compose.Goals as goal
 
 pub returns-in_err-push_command : goal.returns-in_err-push_command
 returns-in_err-push_command c =
-    let turn = YieldsList-turn (YieldsList-at c.into_iter-i-iterator.ensures.into_iter_gives (YieldsList-from_enumerate (YieldsList-at c.enumerate-i-items.ensures.source (YieldsList-from_slice_split _ is_line_feed c.args.text.now c.split.ensures.rest c.split.ensures.done c.split.ensures.closure (λ x r q k. search (rules, tests)))) c.enumerate-i-items.ensures.count))
+    let turn = YieldsList-turn (numbered _ c.args.text.now c.into_iter-i-iterator.ensures.into_iter_gives c.enumerate-i-items.ensures.source c.enumerate-i-items.ensures.count c.split.ensures.rest c.split.ensures.done c.split.ensures.closure (λ x r q k. search (rules, tests)))
     c.loop-i.yielded _ c.loop-i.yielded_by _ _ (c.in-Some.i, c.in-Some.line) c.in-Some.is c.next.ensures.steps in
     let p = err_from_is_err_and c.from_residual-in_err-push_command.result c.from_residual-in_err-push_command.ensures.1 in
     rw (p.1, p.2, ← job_at-enumerate_from 0 (lines_of c.args.text.now))
@@ -17,13 +17,13 @@ returns-in_err-push_command c =
 
 pub loop-i-preserved : goal.loop-i-preserved
 loop-i-preserved c =
-    let turn = YieldsList-turn (YieldsList-at c.into_iter-i-iterator.ensures.into_iter_gives (YieldsList-from_enumerate (YieldsList-at c.enumerate-i-items.ensures.source (YieldsList-from_slice_split _ is_line_feed c.args.text.now c.split.ensures.rest c.split.ensures.done c.split.ensures.closure (λ x r q k. search (rules, tests)))) c.enumerate-i-items.ensures.count))
+    let turn = YieldsList-turn (numbered _ c.args.text.now c.into_iter-i-iterator.ensures.into_iter_gives c.enumerate-i-items.ensures.source c.enumerate-i-items.ensures.count c.split.ensures.rest c.split.ensures.done c.split.ensures.closure (λ x r q k. search (rules, tests)))
     c.loop-i.yielded _ c.loop-i.yielded_by _ _ (c.in-Some.i, c.in-Some.line) c.in-Some.is c.next.ensures.steps in
     let done = done_more (enumerate_from 0 (lines_of c.args.text.now)) (length c.loop-i.yielded) (c.in-Some.i, c.in-Some.line.now) _ _ _ turn.0 turn.1 (ap texts c.deref.ensures.value ∙ c.in_ok-words.ensures) c.in_ok-push_command.ensures c.loop-i.invariant.2 in
     (search rules, search rules, rw (length-append c.loop-i.yielded _) done)
 
 pub returns : goal.returns
 returns c =
-    let end = YieldsList-end (YieldsList-at c.into_iter-i-iterator.ensures.into_iter_gives (YieldsList-from_enumerate (YieldsList-at c.enumerate-i-items.ensures.source (YieldsList-from_slice_split _ is_line_feed c.args.text.now c.split.ensures.rest c.split.ensures.done c.split.ensures.closure (λ x r q k. search (rules, tests)))) c.enumerate-i-items.ensures.count))
+    let end = YieldsList-end (numbered _ c.args.text.now c.into_iter-i-iterator.ensures.into_iter_gives c.enumerate-i-items.ensures.source c.enumerate-i-items.ensures.count c.split.ensures.rest c.split.ensures.done c.split.ensures.closure (λ x r q k. search (rules, tests)))
     c.loop-i.yielded _ c.loop-i.yielded_by _ _ c.in-None.is c.next.ensures.steps in
     sym (job_at-enumerate_from 0 (lines_of c.args.text.now)) ∙ done_all (enumerate_from 0 (lines_of c.args.text.now)) (length c.loop-i.yielded) _ (omega arith) c.loop-i.invariant.2
