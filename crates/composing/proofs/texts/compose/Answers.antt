@@ -1,9 +1,8 @@
 use Rattle.std.proofs.Common.{rules, length, sym, ap, ◌∙◌, tests, arith, length-append}
 use Rattle.std.specs.List.{enumerate_from}
 use Rattle.std.proofs.lemmas.Result.{err_from_is_err_and}
-use Rattle.std.proofs.lemmas.Iterator.Consumers.{YieldsList-at, YieldsList-from_enumerate, YieldsList-turn, YieldsList-end}
-use Rattle.std.proofs.lemmas.Iterator.Splits.{YieldsList-from_slice_split}
-use Rattle.composing.specs.Pieces.{is_line_feed, lines_of, texts}
+use Rattle.std.proofs.lemmas.Iterator.Consumers.{YieldsList-turn, YieldsList-end}
+use Rattle.composing.specs.Pieces.{lines_of, texts}
 use Rattle.composing.proofs.Lines.{numbered, job_at-enumerate_from, done_more, stopped, done_all}
 use Rattle.composing.proofs.texts.compose.Goals as goal
 
