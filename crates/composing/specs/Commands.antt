@@ -1,6 +1,7 @@
 -- What the words of a line spell.
 use Rattle.std.specs.Prelude.{◌≡◌, ℕ, ◌-◌, cond, List, [], ◌∷◌, ◌++◌, length, replicate, Some, None, Ok, Err, codes, Option, Result, ◌==◌, nat_le, slice_index_or}
 use Rattle.std.specs.Int.{w16, w32, to_le_bytes}
+use Rattle.std.specs.Option.{option_map}
 use Rattle.std.specs.Str.{bytes_eq}
 use Rattle.composing.specs.Numerals.{decimal_in, hex_byte}
 use Rattle.composing.specs.declared.verb.Verb.{Verb}
@@ -23,14 +24,9 @@ abbrev pub tape_of : List (List ℕ) → Option (List ℕ)
 tape_of [] = Some []
 tape_of (w ∷ ws) = before (hex_byte w) (tape_of ws)
 
--- a tape behind its length
-abbrev pub behind_length : ℕ → Option (List ℕ) → Option (List ℕ)
-behind_length n None = None
-behind_length n (Some tape) = Some (0x41 ∷ to_le_bytes w16 n ++ tape)
-
--- at most 65,535 words, each of them a byte of the tape
+-- at most 65,535 words, each of them a byte of the tape, which stands behind its length, lowest byte first
 abbrev pub load_job : List (List ℕ) → Option (List ℕ)
-load_job ws = cond (nat_le (length ws) 65535) (behind_length (length ws) (tape_of ws)) None
+load_job ws = cond (nat_le (length ws) 65535) (option_map (λ tape. 0x41 ∷ to_le_bytes w16 (length ws) ++ tape) (tape_of ws)) None
 
 -- two policies and a question
 abbrev pub compare_job : Option ℕ → Option ℕ → Option ℕ → Option (List ℕ)
