@@ -1,9 +1,8 @@
 -- A job as it is parsed, one command after another.
-use Rattle.std.proofs.Common.{◌≡◌, ℕ, ◌+◌, ◌-◌, ◌<◌, ◌≤◌, Bool, true, false, List, [], ◌∷◌, ◌++◌, length, drop, Some, None, Option, sym, refl, ap, ◌∙◌, subst, append_assoc, append-nil, arith, length-drop}
+use Rattle.std.proofs.Common.{◌≡◌, ℕ, ◌-◌, ◌<◌, ◌≤◌, Bool, true, false, List, [], ◌++◌, length, drop, Some, None, Option, sym, ap, subst, append-nil, arith, length-drop}
 use Rattle.std.proofs.lemmas.Bool.{le-ltb}
-use Rattle.std.proofs.lemmas.List.{drop-drop}
 use Rattle.shelf.specs.declared.exchange.Call.{Call}
-use Rattle.jobs.specs.Commands.{Spells, NoCommand}
+use Rattle.jobs.specs.Commands.{NoCommand}
 use Rattle.jobs.specs.Parsing.{Parsed, Taken}
 
 -- the items are the calls before a place, and the rest is the job from there on

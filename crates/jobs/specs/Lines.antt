@@ -4,7 +4,6 @@ use Rattle.std.specs.List.{filter_map}
 use Rattle.std.specs.Option.{option_map}
 use Rattle.tape.specs.Refusals.{number_of}
 use Rattle.tape.specs.declared.refusal.Refusal.TheVariants.{BadJob}
-use Rattle.tape.specs.declared.refusal.RefusedAt.{RefusedAt}
 use Rattle.shelf.specs.declared.exchange.Answer.{Answer}
 use Rattle.shelf.specs.declared.exchange.Answer.TheVariants.{Fact, Unknown, Opened, Took, Filed, Abandoned, Loaded as LoadedAs, Code as CodeOf, Shaped, Kept as KeptAll, Witness as WitnessOf, Holding, Refused as RefusedFor, RefusedThere}
 use Rattle.jobs.specs.declared.line.Line.{Line}

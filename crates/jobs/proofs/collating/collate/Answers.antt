@@ -1,12 +1,9 @@
-use Rattle.std.proofs.Common.{rules, tests, ◌≡◌, List, ◌++◌, Option, vec_items, subst, ap, sym, ◌∙◌, arith}
-use Rattle.std.specs.List.{filter_map}
+use Rattle.std.proofs.Common.{rules, tests, ◌≡◌, ◌++◌, vec_items, subst, ap, ◌∙◌, arith}
 use Rattle.std.specs.Option.{option_to_list}
 use Rattle.std.proofs.lemmas.Iterator.{YieldsList-from_slice, items_from_collect}
 use Rattle.std.proofs.lemmas.Iterator.Adapters.{YieldsList-from_once}
 use Rattle.std.proofs.lemmas.Iterator.Consumers.{YieldsList-at, YieldsList-from_filter_map, YieldsList-from_chain}
 use Rattle.std.proofs.lemmas.Result.{IfOk-weaker}
-use Rattle.shelf.specs.declared.exchange.Call.{Call}
-use Rattle.shelf.specs.declared.exchange.Answer.{Answer}
 use Rattle.jobs.specs.Lines.{line_of, lines_of, bad_line}
 use Rattle.jobs.specs.Collating.{Answers}
 use Rattle.jobs.proofs.collating.collate.Goals as goal
