@@ -2,6 +2,7 @@
 ghost use Rattle.std.specs.Prelude.{◌≡◌};
 ghost use Rattle.composing.specs.Commands.{verb_of};
 
+// The bytes stand in crate jobs as well: to have them from there would make this crate build on a shelf.
 #[derive(Clone, Copy)]
 pub(crate) enum Verb {
     Declare = 0x40,
