@@ -1,5 +1,3 @@
-pub mod Digits
-pub mod Cutting
 pub mod Loading
-pub mod Dispatch
 pub mod Lines
+pub mod Digits

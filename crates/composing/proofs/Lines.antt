@@ -1,43 +1,36 @@
 -- A text as it is composed, one line after another.
-use Rattle.std.proofs.Common.{◌≡◌, ℕ, ◌+◌, ◌<◌, ◌≤◌, Bool, true, false, List, [], ◌∷◌, ◌++◌, length, get_or, drop, Some, None, Ok, Err, Option, Result, sym, refl, ap, ◌∙◌, append_assoc, append-nil, add-one, arith, drop_of_length-le, drop-cons, Bor}
-use Rattle.composing.specs.Pieces.{texts, words_of}
+use Rattle.std.proofs.Common.{arith, ◌≡◌, ℕ, ◌+◌, ◌<◌, List, [], ◌∷◌, length, get_or, drop, Ok, Err, Result, Bool, false, Bor, refl, ap}
+use Rattle.std.specs.Fn.{CalledAt}
+use Rattle.std.specs.Iterator.Adapters.{enumerate_source, enumerate_count, enumerate_steps}
+use Rattle.std.specs.List.{enumerate_from}
+use Rattle.std.specs.Slice.Iter.{split_rest, split_done, split_callee, split_steps}
+use Rattle.std.proofs.lemmas.Iterator.{YieldsList}
+use Rattle.std.proofs.lemmas.Iterator.Consumers.{YieldsList-at, YieldsList-from_enumerate}
+use Rattle.std.proofs.lemmas.Iterator.Splits.{YieldsList-from_slice_split}
+use Rattle.std.proofs.lemmas.Grind.{common_steps}
+use denote.Param.Members.{Mut}
+use Rattle.composing.specs.Pieces.{is_line_feed, lines_of, words_of}
 use Rattle.composing.specs.Commands.{command_of, Adds}
-use Rattle.composing.specs.Text.{in_front, line_then, job_of}
+use Rattle.composing.specs.Text.{in_front, line_then, job_of, Says}
+use Rattle.composing.specs.declared.error.ComposeError.{ComposeError}
 
--- the lines before i are read, and their bytes are the job so far
-abbrev pub Done : List (Bor (List ℕ)) → ℕ → List ℕ → Type 0
-Done lines i job = job_of 1 (texts lines) ≡ in_front job (job_of (i + 1) (texts (drop i lines)))
+-- lines as a job, each with how many stand before it
+abbrev pub job_at : List (ℕ × List ℕ) → Result (List ℕ) ℕ
+job_at [] = Ok []
+job_at (line ∷ lines) = line_then (line.0 + 1) (command_of (words_of line.1)) (job_at lines)
 
-pub done_none : (lines : List (Bor (List ℕ))) (job : List ℕ) → job ≡ [] → Done lines 0 job
-done_none lines job e = go (job_of 1 (texts lines)) ∙ ap (λ (bs : List ℕ). in_front bs (job_of 1 (texts lines))) (sym e)
-  where
-    go : (r : Result (List ℕ) ℕ) → r ≡ in_front [] r
-    go (Ok j) = refl
-    go (Err n) = refl
+pub job_at-enumerate_from : (n : ℕ) (lines : List (List ℕ)) → job_at (enumerate_from n lines) ≡ job_of (n + 1) lines
+job_at-enumerate_from n [] = refl
+job_at-enumerate_from n (line ∷ lines) = ap (line_then (n + 1) (command_of (words_of line))) (job_at-enumerate_from (n + 1) lines)
 
-from_line : (lines : List (Bor (List ℕ))) (i n : ℕ) (d : Bor (List ℕ)) (ws : List (List ℕ)) → i < length lines → ws ≡ words_of (get_or lines i d).now → job_of n (texts (drop i lines)) ≡ line_then n (command_of ws) (job_of (n + 1) (texts (drop (i + 1) lines)))
-from_line lines i n d ws h e =
-    let p : drop i lines ≡ get_or lines i d ∷ drop (i + 1) lines = rw (add-one, drop-cons lines i d) in
-    ap (λ (xs : List (Bor (List ℕ))). job_of n (texts xs)) p ∙ ap (λ (x : List (List ℕ)). line_then n (command_of x) (job_of (n + 1) (texts (drop (i + 1) lines)))) (sym e)
+-- the lines before k are read, and their bytes are the job so far
+pub record Done (lines : List (ℕ × List ℕ)) (k : ℕ) (job : List ℕ) : Type 0 where
+  pub read : job_at lines ≡ in_front job (job_at (drop k lines))
 
--- a line that was read, and one that was not
-read_on : (n : ℕ) (o : Option (List ℕ)) (read : Bool) (job job' : List ℕ) (rest : Result (List ℕ) ℕ) → read ≡ true → Adds o job read job' → in_front job (line_then n o rest) ≡ in_front job' rest
-read_on n None read job job' rest t a = let z : true ≡ false = sym t ∙ a in let y : ◌≡◌ {A = ℕ} 0 1 = cc in absurd (omega arith)
-read_on n (Some bytes) read job job' (Err m) t a = refl
-read_on n (Some bytes) read job job' (Ok later) t a = ap Ok (sym (append_assoc job bytes later) ∙ ap (λ (bs : List ℕ). bs ++ later) (sym a.1))
+-- a line that ends in an error
+pub stopped : (lines : List (ℕ × List ℕ)) (k : ℕ) (line : ℕ × List ℕ) (words : List (List ℕ)) (error : ComposeError) (job job' : List ℕ) → k < length lines → line ≡ get_or lines k line → words ≡ words_of line.1 → Adds (line.0 + 1) (command_of words) job (Err error) job' → Done lines k job → Says error (job_at lines)
+stopped lines k line words error job job' h e w a done = grind (arith, common_steps)
 
-stopped : (n : ℕ) (o : Option (List ℕ)) (read : Bool) (job job' : List ℕ) (rest : Result (List ℕ) ℕ) → read ≡ false → Adds o job read job' → in_front job (line_then n o rest) ≡ Err n
-stopped n None read job job' rest t a = refl
-stopped n (Some bytes) read job job' rest t a = let z : true ≡ false = sym a.0 ∙ t in let y : ◌≡◌ {A = ℕ} 0 1 = cc in absurd (omega arith)
-
-pub done_more : (lines : List (Bor (List ℕ))) (i : ℕ) (d : Bor (List ℕ)) (ws : List (List ℕ)) (read : Bool) (job job' : List ℕ) → i < length lines → ws ≡ words_of (get_or lines i d).now → read ≡ true → Adds (command_of ws) job read job' → Done lines i job → Done lines (i + 1) job'
-done_more lines i d ws read job job' h e t a inv =
-    inv ∙ ap (in_front job) (from_line lines i (i + 1) d ws h e) ∙ read_on (i + 1) (command_of ws) read job job' (job_of ((i + 1) + 1) (texts (drop (i + 1) lines))) t a
-
-pub done_bad : (lines : List (Bor (List ℕ))) (i : ℕ) (d : Bor (List ℕ)) (ws : List (List ℕ)) (read : Bool) (job job' : List ℕ) → i < length lines → ws ≡ words_of (get_or lines i d).now → read ≡ false → Adds (command_of ws) job read job' → Done lines i job → Err (i + 1) ≡ job_of 1 (texts lines)
-done_bad lines i d ws read job job' h e t a inv =
-    sym (inv ∙ ap (in_front job) (from_line lines i (i + 1) d ws h e) ∙ stopped (i + 1) (command_of ws) read job job' (job_of ((i + 1) + 1) (texts (drop (i + 1) lines))) t a)
-
-pub done_all : (lines : List (Bor (List ℕ))) (i : ℕ) (job : List ℕ) → length lines ≤ i → Done lines i job → Ok job ≡ job_of 1 (texts lines)
-done_all lines i job h inv =
-    sym (inv ∙ ap (λ (xs : List (Bor (List ℕ))). in_front job (job_of (i + 1) (texts xs))) (drop_of_length-le lines h) ∙ ap Ok (append-nil job))
+-- what a loop over the lines of a text meets, each with how many stand before it
+pub numbered : {F : Type 0} {f : F} {cut : _} {lines s : _} (g : Mut F (Bor ℕ × Unit {0}) Bool) (text : List ℕ) → s ≡ lines → enumerate_source lines ≡ cut → enumerate_count lines ≡ 0 → split_rest cut ≡ text → split_done cut ≡ false → split_callee cut ≡ f → ((x : ℕ) (b : Bool) (q : F) → CalledAt g f x b q → (q ≡ f) × (b ≡ is_line_feed x)) → YieldsList {B = ℕ × List ℕ} (enumerate_steps (split_steps g)) (λ p. (p.0, p.1.now)) s (enumerate_from 0 (lines_of text))
+numbered g text e s n r d c k = YieldsList-at e (YieldsList-from_enumerate (YieldsList-at s (YieldsList-from_slice_split g is_line_feed text r d c k)) n)

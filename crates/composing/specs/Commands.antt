@@ -1,17 +1,13 @@
 -- What the words of a line spell.
-use Rattle.std.specs.Prelude.{◌≡◌, ℕ, ◌-◌, ◌/◌, ◌%◌, Bool, true, false, cond, List, [], ◌∷◌, ◌++◌, length, drop, replicate, Some, None, codes, Option, ◌==◌, nat_le, slice_index_or}
+use Rattle.std.specs.Prelude.{◌≡◌, ℕ, ◌-◌, cond, List, [], ◌∷◌, ◌++◌, length, replicate, Some, None, Ok, Err, codes, Option, Result, ◌==◌, nat_le, slice_index_or}
+use Rattle.std.specs.Int.{w16, w32, to_le_bytes}
+use Rattle.std.specs.Option.{option_map}
 use Rattle.std.specs.Str.{bytes_eq}
 use Rattle.composing.specs.Numerals.{decimal_in, hex_byte}
 use Rattle.composing.specs.declared.verb.Verb.{Verb}
 use Rattle.composing.specs.declared.verb.Verb.TheVariants.{Declare, Load, Compare, Ask}
-
--- the first word of a command
-abbrev pub verb_of : List ℕ → Option Verb
-verb_of word =
-    cond (bytes_eq word (codes "declare")) (Some Declare)
-    (cond (bytes_eq word (codes "load")) (Some Load)
-    (cond (bytes_eq word (codes "compare")) (Some Compare)
-    (cond (bytes_eq word (codes "ask")) (Some Ask) None)))
+use Rattle.composing.specs.declared.error.ComposeError.{ComposeError}
+use Rattle.composing.specs.declared.error.ComposeError.TheVariants.{Unreadable, OutOfMemory}
 
 -- a name of at most 16 bytes: its length, and its bytes filled up with zeros to 16
 abbrev pub declare_job : List ℕ → Option (List ℕ)
@@ -28,14 +24,9 @@ abbrev pub tape_of : List (List ℕ) → Option (List ℕ)
 tape_of [] = Some []
 tape_of (w ∷ ws) = before (hex_byte w) (tape_of ws)
 
--- a tape behind its length
-abbrev pub behind_length : ℕ → Option (List ℕ) → Option (List ℕ)
-behind_length n None = None
-behind_length n (Some tape) = Some ((0x41 ∷ n % 256 ∷ n / 256 ∷ []) ++ tape)
-
--- at most 65,535 words, each of them a byte of the tape
+-- at most 65,535 words, each of them a byte of the tape, which stands behind its length, lowest byte first
 abbrev pub load_job : List (List ℕ) → Option (List ℕ)
-load_job ws = cond (nat_le (length ws) 65535) (behind_length (length ws) (tape_of ws)) None
+load_job ws = cond (nat_le (length ws) 65535) (option_map (λ tape. 0x41 ∷ to_le_bytes w16 (length ws) ++ tape) (tape_of ws)) None
 
 -- two policies and a question
 abbrev pub compare_job : Option ℕ → Option ℕ → Option ℕ → Option (List ℕ)
@@ -46,23 +37,35 @@ compare_job (Some first) (Some second) None = None
 
 -- a policy, and a request in four bytes, lowest byte first
 abbrev pub ask_job : Option ℕ → Option ℕ → Option (List ℕ)
-ask_job (Some policy) (Some request) = Some (0x43 ∷ policy ∷ request % 256 ∷ request / 256 % 256 ∷ request / 65536 % 256 ∷ request / 16777216 ∷ [])
+ask_job (Some policy) (Some request) = Some (0x43 ∷ policy ∷ to_le_bytes w32 request)
 ask_job None request = None
 ask_job (Some policy) None = None
+
+-- the first word of a command
+abbrev pub verb_of : List ℕ → Option Verb
+verb_of word =
+    cond (bytes_eq word (codes "declare")) (Some Declare)
+    (cond (bytes_eq word (codes "load")) (Some Load)
+    (cond (bytes_eq word (codes "compare")) (Some Compare)
+    (cond (bytes_eq word (codes "ask")) (Some Ask) None)))
 
 -- the command of a verb, with as many words behind it as it takes
 abbrev pub spelled : Option Verb → List (List ℕ) → Option (List ℕ)
 spelled None words = None
-spelled (Some Declare) words = cond (length words == 2) (declare_job (slice_index_or words 1 [])) None
-spelled (Some Load) words = load_job (drop 1 words)
-spelled (Some Compare) words = cond (length words == 4) (compare_job (decimal_in 255 (slice_index_or words 1 [])) (decimal_in 255 (slice_index_or words 2 [])) (decimal_in 255 (slice_index_or words 3 []))) None
-spelled (Some Ask) words = cond (length words == 3) (ask_job (decimal_in 255 (slice_index_or words 1 [])) (decimal_in 4294967295 (slice_index_or words 2 []))) None
+spelled (Some Declare) words = cond (length words == 1) (declare_job (slice_index_or words 0 [])) None
+spelled (Some Load) words = load_job words
+spelled (Some Compare) words = cond (length words == 3) (compare_job (decimal_in 255 (slice_index_or words 0 [])) (decimal_in 255 (slice_index_or words 1 [])) (decimal_in 255 (slice_index_or words 2 []))) None
+spelled (Some Ask) words = cond (length words == 2) (ask_job (decimal_in 255 (slice_index_or words 0 [])) (decimal_in 4294967295 (slice_index_or words 1 []))) None
 
 -- the bytes of a line's words: none for no words
 abbrev pub command_of : List (List ℕ) → Option (List ℕ)
-command_of words = cond (length words == 0) (Some []) (spelled (verb_of (slice_index_or words 0 [])) words)
+command_of [] = Some []
+command_of (word ∷ words) = spelled (verb_of word) words
 
--- a job after a line: its bytes stand behind those before, where it could be read
-abbrev pub Adds : Option (List ℕ) → List ℕ → Bool → List ℕ → Type 0
-Adds None job read job' = read ≡ false
-Adds (Some bytes) job read job' = (read ≡ true) × (job' ≡ job ++ bytes)
+-- a job after a line of this number: its bytes stand behind those before. Or its number is told, where it cannot be read. Nothing is said where memory runs out
+abbrev pub Adds : ℕ → Option (List ℕ) → List ℕ → Result (Unit {0}) ComposeError → List ℕ → Type 0
+Adds line (Some bytes) job (Ok done) job' = job' ≡ job ++ bytes
+Adds line None job (Ok done) job' = ⊥
+Adds line (Some bytes) job (Err (Unreadable n)) job' = ⊥
+Adds line None job (Err (Unreadable n)) job' = n ≡ line
+Adds line command job (Err OutOfMemory) job' = Unit {0}

@@ -1,3 +1,4 @@
+pub mod Errors
 pub mod Numerals
 pub mod Pieces
 pub mod Commands

@@ -1,41 +1,29 @@
--- How a text falls into lines and words.
-use Rattle.std.specs.Prelude.{ℕ, ◌-◌, Bool, cond, ◌||◌, List, [], ◌∷◌, ◌++◌, map, length, take, ◌==◌, slice_index}
+-- How a text falls into lines, and a line into words.
+use Rattle.std.specs.Prelude.{ℕ, Bool, not, ◌||◌, ◌==◌, List, map, filter, length}
 use Rattle.std.specs.Borrow.{Bor}
-use Rattle.composing.specs.declared.separating.Separator.{Separator}
-use Rattle.composing.specs.declared.separating.Separator.TheVariants.{LineFeed, Blank}
+use Rattle.std.specs.List.{slice_split, before_first}
+use Rattle.std.specs.Str.Lines.{strip_carriage_return}
 
 -- what slices hold
 abbrev pub texts : List (Bor (List ℕ)) → List (List ℕ)
 texts slices = map (λ s. s.now) slices
 
--- the bytes that separate lines, and words: a line feed; a space or a tab
-abbrev pub separates : Separator → ℕ → Bool
-separates LineFeed b = b == 10
-separates Blank b = b == 32 || b == 9
+-- a line feed ends a line
+abbrev pub is_line_feed : ℕ → Bool
+is_line_feed b = b == 10
 
--- the pieces between separators, some of them perhaps empty; the first begins with what was met of it
-abbrev pub pieces_from : Separator → List ℕ → List ℕ → List (List ℕ)
-pieces_from at met [] = met ∷ []
-pieces_from at met (b ∷ bs) = cond (separates at b) (met ∷ pieces_from at [] bs) (pieces_from at (met ++ b ∷ []) bs)
+-- the lines of a text, some of them perhaps empty
+abbrev pub lines_of : List ℕ → List (List ℕ)
+lines_of text = slice_split is_line_feed text
 
--- the pieces of a text
-abbrev pub pieces_of : Separator → List ℕ → List (List ℕ)
-pieces_of at bytes = pieces_from at [] bytes
-
--- those that are not empty
-abbrev pub filled : List (List ℕ) → List (List ℕ)
-filled [] = []
-filled (w ∷ ws) = cond (length w == 0) (filled ws) (w ∷ filled ws)
-
--- a line without a carriage return at its end
-abbrev pub without_return : List ℕ → List ℕ
-without_return line = cond (slice_index line (length line - 1) == 13) (take (length line - 1) line) line
+-- a space or a tab
+abbrev pub is_blank : ℕ → Bool
+is_blank b = b == 32 || b == 9
 
 -- the bytes before the first #
 abbrev pub before_comment : List ℕ → List ℕ
-before_comment [] = []
-before_comment (b ∷ bs) = cond (b == 35) [] (b ∷ before_comment bs)
+before_comment line = before_first (λ b. b == 35) line
 
--- the words of a line
+-- the words of a line: what is not empty between its blanks, without a carriage return at its end and without a comment
 abbrev pub words_of : List ℕ → List (List ℕ)
-words_of line = filled (pieces_of Blank (before_comment (without_return line)))
+words_of line = filter (λ w. not (length w == 0)) (slice_split is_blank (before_comment (strip_carriage_return line)))

@@ -1,10 +1,9 @@
 -- What a whole text composes to.
-use Rattle.std.specs.Prelude.{ℕ, ◌+◌, List, [], ◌∷◌, ◌++◌, Some, None, Ok, Err, vec_items, Option, Result}
-use Rattle.composing.specs.Pieces.{pieces_of, words_of}
+use Rattle.std.specs.Prelude.{◌≡◌, ℕ, ◌+◌, List, [], ◌∷◌, ◌++◌, Some, None, Ok, Err, Option, Result}
+use Rattle.composing.specs.Pieces.{lines_of, words_of}
 use Rattle.composing.specs.Commands.{command_of}
-use Rattle.composing.specs.declared.separating.Separator.TheVariants.{LineFeed}
-use Rattle.composing.specs.declared.outcome.Composed.{Composed}
-use Rattle.composing.specs.declared.outcome.Composed.TheVariants.{Job, Unreadable}
+use Rattle.composing.specs.declared.error.ComposeError.{ComposeError}
+use Rattle.composing.specs.declared.error.ComposeError.TheVariants.{Unreadable, OutOfMemory}
 
 -- bytes in front of a job, where there is one
 abbrev pub in_front : List ℕ → Result (List ℕ) ℕ → Result (List ℕ) ℕ
@@ -23,9 +22,9 @@ job_of n (line ∷ lines) = line_then n (command_of (words_of line)) (job_of (n 
 
 -- a text as a job, or the number of the first line that cannot be read, from 1
 abbrev pub composed : List ℕ → Result (List ℕ) ℕ
-composed bytes = job_of 1 (pieces_of LineFeed bytes)
+composed text = job_of 1 (lines_of text)
 
--- what an outcome says
-abbrev pub outcome_of : Composed → Result (List ℕ) ℕ
-outcome_of (Job bytes) = Ok (vec_items bytes)
-outcome_of (Unreadable n) = Err n
+-- an error says of a text which line is the first that cannot be read; want of memory says nothing of the text
+abbrev pub Says : ComposeError → Result (List ℕ) ℕ → Type 0
+Says (Unreadable n) outcome = outcome ≡ Err n
+Says OutOfMemory outcome = Unit {0}

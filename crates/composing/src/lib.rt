@@ -2,12 +2,11 @@
 #![tactic(auto)]
 
 mod commands;
+mod error;
 mod numerals;
-mod outcome;
-mod separating;
 mod splitting;
 mod texts;
 mod verb;
 
-pub use outcome::Composed;
+pub use error::ComposeError;
 pub use texts::compose;

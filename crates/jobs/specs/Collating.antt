@@ -1,5 +1,6 @@
 -- What a job prints.
 use Rattle.std.specs.Prelude.{◌≡◌, ℕ, List, ◌++◌, Option}
+use Rattle.std.specs.Option.{option_to_list}
 use Rattle.effects.specs.Four.{four, four_questions}
 use Rattle.shelf.specs.declared.exchange.Call.{Call}
 use Rattle.shelf.specs.declared.exchange.Answer.{Answer}
@@ -19,4 +20,4 @@ pub record Collated (job : List ℕ) (lines : List Line) : Type 0 where
   pub answers : List Answer
   pub taken : Taken job calls bad
   pub law : Answers calls answers
-  pub told : lines ≡ lines_of answers ++ bad_line bad
+  pub told : lines ≡ lines_of answers ++ option_to_list (bad_line bad)

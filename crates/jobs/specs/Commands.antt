@@ -1,5 +1,6 @@
 -- The job commands: which bytes spell which call.
 use Rattle.std.specs.Prelude.{◌≡◌, ℕ, ◌+◌, ◌*◌, ◌<◌, ◌≤◌, cond, List, length, take, drop, Some, None, Option, ◌==◌, slice_index}
+use Rattle.std.specs.Borrow.{Bor}
 use Rattle.shelf.specs.declared.exchange.Call.{Call}
 use Rattle.shelf.specs.declared.exchange.Call.TheVariants.{Declare, Find, Open, Feed, File, Abandon, Load, Ask, Shape, Compare, Held}
 
@@ -43,7 +44,7 @@ pub record Spells (bytes : List ℕ) (call : Call) (size : ℕ) : Type 0 where
 abbrev pub NoCommand : List ℕ → Type 0
 NoCommand bytes = elim (size_of bytes) [ None ↦ Unit {0} | Some size ↦ length bytes < size ]
 
--- what bytes begin with: a job command as a call and its size, or none
-abbrev pub Begins : List ℕ → Option (Call × ℕ) → Type 0
-Begins bytes (Some x) = Spells bytes x.0 x.1
+-- what bytes begin with: a job command, as a call and the bytes after it, or none
+abbrev pub Begins : List ℕ → Option (Call × Bor (List ℕ)) → Type 0
+Begins bytes (Some x) = (size : ℕ) × Spells bytes x.0 size × (x.1.now ≡ drop size bytes)
 Begins bytes None = NoCommand bytes

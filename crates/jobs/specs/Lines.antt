@@ -1,6 +1,7 @@
 -- The lines that answers print as.
-use Rattle.std.specs.Prelude.{ℕ, List, [], ◌∷◌, ◌++◌, Some, None, codes, decimal, Option}
-use Rattle.std.specs.Option.{option_to_list}
+use Rattle.std.specs.Prelude.{ℕ, List, ◌++◌, Some, None, codes, decimal, Option}
+use Rattle.std.specs.List.{filter_map}
+use Rattle.std.specs.Option.{option_map}
 use Rattle.tape.specs.Refusals.{number_of}
 use Rattle.tape.specs.declared.refusal.Refusal.TheVariants.{BadJob}
 use Rattle.shelf.specs.declared.exchange.Answer.{Answer}
@@ -15,8 +16,8 @@ line_of (LoadedAs policy held) = Some (Loaded policy held)
 line_of KeptAll = Some Kept
 line_of (WitnessOf request) = Some (Witness request)
 line_of (CodeOf code) = Some (Code code)
-line_of (RefusedFor refusal) = Some (Refused (number_of refusal) 0)
-line_of (RefusedThere refused) = Some (Refused (number_of refused.refusal) refused.place)
+line_of (RefusedFor refusal) = Some (Refused (record { refusal = refusal; place = 0 }))
+line_of (RefusedThere refused) = Some (Refused refused)
 line_of Unknown = None
 line_of (Opened shelf count) = None
 line_of (Took bytes) = None
@@ -27,13 +28,11 @@ line_of (Holding held) = None
 
 -- the lines of answers, in their order
 abbrev pub lines_of : List Answer → List Line
-lines_of [] = []
-lines_of (a ∷ answers) = option_to_list (line_of a) ++ lines_of answers
+lines_of answers = filter_map line_of answers
 
 -- the line of a job that is refused at a place
-abbrev pub bad_line : Option ℕ → List Line
-bad_line None = []
-bad_line (Some place) = Refused (number_of BadJob) place ∷ []
+abbrev pub bad_line : Option ℕ → Option Line
+bad_line bad = option_map (λ place. Refused (record { refusal = BadJob; place = place })) bad
 
 -- what a line prints as, in bytes
 abbrev pub printed : Line → List ℕ
@@ -42,4 +41,4 @@ printed (Loaded policy held) = codes "L " ++ (decimal policy ++ (codes " " ++ de
 printed Kept = codes "C kept"
 printed (Witness request) = codes "C " ++ decimal request
 printed (Code code) = codes "A " ++ decimal code
-printed (Refused number place) = codes "R " ++ (decimal number ++ (codes " " ++ decimal place))
+printed (Refused refused) = codes "R " ++ (decimal (number_of refused.refusal) ++ (codes " " ++ decimal refused.place))

@@ -1,7 +1,6 @@
 // From a job's bytes to its lines.
-ghost use Rattle.std.specs.Prelude.{◌≡◌, ◌++◌, IfOk, OnOk};
+ghost use Rattle.std.specs.Prelude.{IfOk};
 ghost use Rattle.jobs.specs.Collating.{Answers, Collated};
-ghost use Rattle.jobs.specs.Lines.{lines_of};
 
 use crate::line::Line;
 use crate::parsing::parse;
@@ -13,7 +12,7 @@ use probing::node::Node;
 use probing::pair::Pair;
 use shelf::{Answer, Call, run};
 use std::alloc::{AllocError, Global};
-use tape::Refusal;
+use tape::{Refusal, RefusedAt};
 
 // How many slots the shelf of a job has, and how many names it can take.
 const SLOTS: usize = 2048;
@@ -61,28 +60,21 @@ fn answers_to(heap: Global, calls: &[Call]) -> Result<Vec<Answer>, AllocError>
     Ok(log)
 }
 
-// Adds the lines of answers.
-fn push_lines(lines: &mut Vec<Line>, answers: &[Answer]) -> Result<(), AllocError>
-    ensures { OnOk result (lines.new.items ≡ lines.old.items ++ lines_of answers.now) }
-{
-    for answer in answers {
-        if let Some(line) = line_of(*answer) {
-            lines.push(line)?;
-        }
-    }
-    Ok(())
-}
-
 // The lines that a job prints.
 pub fn collate(heap: Global, job: &[u8]) -> Result<Vec<Line>, AllocError>
     ensures { IfOk result (λ v. Collated job.now v.items) }
 {
     let job = parse(heap, job)?;
     let answers = answers_to(heap, &job.calls)?;
-    let mut lines = Vec::new(heap);
-    push_lines(&mut lines, &answers)?;
-    if let Some(place) = job.bad {
-        lines.push(Line::Refused(Refusal::BadJob.number(), place))?;
-    }
-    Ok(lines)
+    let refused = job.bad.map(|place| {
+        Line::Refused(RefusedAt {
+            refusal: Refusal::BadJob,
+            place,
+        })
+    });
+    answers
+        .iter()
+        .filter_map(|answer| line_of(*answer))
+        .chain(refused)
+        .collect(heap)
 }

@@ -1,10 +1,10 @@
 // One job command.
-ghost use Rattle.std.specs.Prelude.{◌≡◌, ◌+◌, ◌*◌, ◌<◌, ◌≤◌, length, take, drop, slice_index};
-ghost use Rattle.jobs.specs.Commands.{tape_length, request_in, Begins};
+ghost use Rattle.jobs.specs.Commands.{Begins};
 
 use probing::name::Name;
 use shelf::Call;
 
+// The first bytes of job commands.
 const DECLARE: u8 = 0x40;
 
 const LOAD: u8 = 0x41;
@@ -13,72 +13,26 @@ const COMPARE: u8 = 0x42;
 
 const ASK: u8 = 0x43;
 
-// The length of a load's tape, lowest byte first.
-fn tape_length(bytes: &[u8]) -> usize
-    requires { 3 ≤ length bytes.now }
-    ensures said { result ≡ tape_length bytes.now }
-    ensures small { result < 65536 }
-{
-    bytes[1] as usize + 256 * (bytes[2] as usize)
-}
-
-// The request of an ask, lowest byte first.
-fn request(bytes: &[u8]) -> u32
-    requires { 6 ≤ length bytes.now }
-    ensures { result ≡ request_in bytes.now }
-{
-    bytes[2] as u32 + 256 * (bytes[3] as u32 + 256 * (bytes[4] as u32 + 256 * (bytes[5] as u32)))
-}
-
-// The name of a declare.
-fn name(bytes: &[u8]) -> Name
-    requires { 18 ≤ length bytes.now }
-    ensures len { result.len ≡ slice_index bytes.now 1 }
-    ensures spelt { result.bytes ≡ take 16 (drop 2 bytes.now) }
-{
-    let mut name = Name {
-        len: bytes[1],
-        bytes: [0; 16],
-    };
-    name.bytes.copy_from_slice(&bytes[2..18]);
-    name
-}
-
-// The call that the bytes begin with, and how many of them spell it.
-pub(crate) fn command<'a>(bytes: &'a [u8]) -> Option<(Call<'a>, usize)>
+// The call that the bytes begin with, and the bytes after it.
+pub(crate) fn command<'a>(bytes: &'a [u8]) -> Option<(Call<'a>, &'a [u8])>
     ensures { Begins bytes.now result }
 {
-    if bytes.len() < 1 {
-        return None;
-    }
-    match bytes[0] {
-        DECLARE => {
-            if bytes.len() < 18 {
-                return None;
-            }
-            Some((Call::Declare(name(bytes)), 18))
+    match *bytes {
+        [DECLARE, len, ref rest @ ..] => {
+            let (name, rest) = rest.split_first_chunk::<16>()?;
+            Some((Call::Declare(Name { len, bytes: *name }), rest))
         }
-        LOAD => {
-            if bytes.len() < 3 {
-                return None;
-            }
-            let size = 3 + tape_length(bytes);
-            if bytes.len() < size {
-                return None;
-            }
-            Some((Call::Load(&bytes[3..size]), size))
+        [LOAD, low, high, ref rest @ ..] => {
+            let size = u16::from_le_bytes([low, high]);
+            let (tape, rest) = rest.split_at_checked(usize::from(size))?;
+            Some((Call::Load(tape), rest))
         }
-        COMPARE => {
-            if bytes.len() < 4 {
-                return None;
-            }
-            Some((Call::Compare(bytes[1], bytes[2], bytes[3]), 4))
+        [COMPARE, first, second, question, ref rest @ ..] => {
+            Some((Call::Compare(first, second, question), rest))
         }
-        ASK => {
-            if bytes.len() < 6 {
-                return None;
-            }
-            Some((Call::Ask(bytes[1], request(bytes)), 6))
+        [ASK, policy, a, b, c, d, ref rest @ ..] => {
+            let request = u32::from_le_bytes([a, b, c, d]);
+            Some((Call::Ask(policy, request), rest))
         }
         _ => None,
     }

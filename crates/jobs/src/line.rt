@@ -1,4 +1,5 @@
 // A line of output.
+use tape::RefusedAt;
 
 // What a job command came to.
 #[derive(Clone, Copy, PartialEq, Eq, Debug)]
@@ -13,6 +14,5 @@ pub enum Line {
     Witness(u32),
     // an effect's code
     Code(u8),
-    // a refusal's number, and its place
-    Refused(u8, usize),
+    Refused(RefusedAt),
 }

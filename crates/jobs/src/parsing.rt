@@ -20,20 +20,14 @@ pub fn parse<'a>(heap: Global, job: &'a [u8]) -> Result<Job<'a>, AllocError>
             bad: Some(0),
         });
     }
-    let mut place = 0;
-    while place < job.len() {
-        match command(&job[place..]) {
-            Some((call, size)) => {
-                calls.push(call)?;
-                place += size;
-            }
-            None => {
-                return Ok(Job {
-                    calls,
-                    bad: Some(place),
-                });
-            }
-        }
+    let mut rest = job;
+    while !rest.is_empty() {
+        let Some((call, after)) = command(rest) else {
+            let bad = Some(job.len() - rest.len());
+            return Ok(Job { calls, bad });
+        };
+        calls.push(call)?;
+        rest = after;
     }
     Ok(Job { calls, bad: None })
 }

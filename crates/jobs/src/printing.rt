@@ -5,6 +5,7 @@ ghost use Rattle.jobs.specs.Lines.{line_of, printed};
 use crate::line::Line;
 use shelf::Answer;
 use std::fmt;
+use tape::RefusedAt;
 
 // The line of an answer, if it is one that a job command leads to.
 pub fn line_of(answer: Answer) -> Option<Line>
@@ -16,10 +17,8 @@ pub fn line_of(answer: Answer) -> Option<Line>
         Answer::Kept => Some(Line::Kept),
         Answer::Witness(request) => Some(Line::Witness(request)),
         Answer::Code(code) => Some(Line::Code(code)),
-        Answer::Refused(refusal) => Some(Line::Refused(refusal.number(), 0)),
-        Answer::RefusedThere(refused) => {
-            Some(Line::Refused(refused.refusal.number(), refused.place))
-        }
+        Answer::Refused(refusal) => Some(Line::Refused(RefusedAt { refusal, place: 0 })),
+        Answer::RefusedThere(refused) => Some(Line::Refused(refused)),
         _ => None,
     }
 }
@@ -34,7 +33,10 @@ impl fmt::Display for Line {
             Line::Kept => write!(f, "C kept"),
             Line::Witness(request) => write!(f, "C {request}"),
             Line::Code(code) => write!(f, "A {code}"),
-            Line::Refused(number, place) => write!(f, "R {number} {place}"),
+            Line::Refused(RefusedAt { refusal, place }) => {
+                let number = refusal.number();
+                write!(f, "R {number} {place}")
+            }
         }
     }
 }

@@ -1,8 +1,10 @@
-use composing::{Composed, compose};
+use composing::ComposeError::Unreadable;
+use composing::{ComposeError, compose};
 use jobs::{Line, parse};
 use shelf::Call;
 use std::alloc::{AllocError, Global};
 use std::test::Fail;
+use tape::{Refusal, RefusedAt};
 
 const SIX_LINES: &[u8] =
     b"declare student\ndeclare faculty\nload 10 01 01 01 11 1f\nload 10 01 01 01 11 10 02 01 00 11 13 00 1F\ncompare 0 1 1\nask 1 3\n";
@@ -13,19 +15,9 @@ fn taken(heap: Global, job: &[u8]) -> Result<(usize, Option<usize>), AllocError>
     Ok((job.calls.len(), job.bad))
 }
 
-// The line of a text that cannot be read, if there is one.
-fn bad_line(heap: Global, text: &[u8]) -> Result<Option<usize>, AllocError> {
-    match compose(heap, text)? {
-        Composed::Job(_) => Ok(None),
-        Composed::Unreadable(number) => Ok(Some(number)),
-    }
-}
-
-fn composes_to(heap: Global, text: &[u8], job: &[u8]) -> Result<bool, AllocError> {
-    match compose(heap, text)? {
-        Composed::Job(bytes) => Ok(bytes.as_slice() == job),
-        Composed::Unreadable(_) => Ok(false),
-    }
+// Why a text has no job, if it has none.
+fn error_of(heap: Global, text: &[u8]) -> Option<ComposeError> {
+    compose(heap, text).err()
 }
 
 #[test]
@@ -67,7 +59,10 @@ fn long_jobs(rt: HostRuntime) -> Result<(), Fail> {
 
 #[test]
 fn printed_lines(rt: HostRuntime) -> Result<(), Fail> {
-    let line = Line::Refused(39, 7);
+    let line = Line::Refused(RefusedAt {
+        refusal: Refusal::NoSlot,
+        place: 7,
+    });
     assert!(rt; format!(in rt.alloc(); "{line}")?.as_str() == "R 39 7");
     let line = Line::Kept;
     assert!(rt; format!(in rt.alloc(); "{line}")?.as_str() == "C kept");
@@ -75,44 +70,58 @@ fn printed_lines(rt: HostRuntime) -> Result<(), Fail> {
 }
 
 #[test]
+fn printed_errors(rt: HostRuntime) -> Result<(), Fail> {
+    let error = Unreadable(12);
+    assert!(rt; format!(in rt.alloc(); "{error}")?.as_str() == "line 12: cannot be read");
+    Ok(())
+}
+
+#[test]
 fn texts(rt: HostRuntime) -> Result<(), Fail> {
-    assert!(rt; composes_to(rt.alloc(), b"", &[])?);
-    assert!(rt; composes_to(rt.alloc(), b"# nothing\n\n \t# here\r\n", &[])?);
-    assert!(rt;
-        composes_to(
-            rt.alloc(),
-            b"load\r\nask\t2 258#",
-            &[0x41, 0, 0, 0x43, 2, 2, 1, 0, 0],
-        )?
+    let job = compose(rt.alloc(), b"")?;
+    assert!(rt; job.is_empty());
+    let job = compose(rt.alloc(), b"# nothing\n\n \t# here\r\n")?;
+    assert!(rt; job.is_empty());
+    let job = compose(rt.alloc(), b"load\r\nask\t2 258#")?;
+    assert_eq!(rt;
+        job.as_slice(),
+        [0x41, 0, 0, 0x43, 2, 2, 1, 0, 0].as_slice()
     );
-    assert!(rt; composes_to(rt.alloc(), b" load aB 0c\n", &[0x41, 2, 0, 0xAB, 0x0C])?);
-    assert!(rt; composes_to(rt.alloc(), b"compare 0 001 255", &[0x42, 0, 1, 255])?);
+    let job = compose(rt.alloc(), b" load aB 0c\n")?;
+    assert_eq!(rt; job.as_slice(), [0x41, 2, 0, 0xAB, 0x0C].as_slice());
+    let job = compose(rt.alloc(), b"compare 0 001 255")?;
+    assert_eq!(rt; job.as_slice(), [0x42, 0, 1, 255].as_slice());
     Ok(())
 }
 
 #[test]
 fn unreadable_lines(rt: HostRuntime) -> Result<(), Fail> {
-    assert_eq!(rt; bad_line(rt.alloc(), b"ask 0 4294967295")?, None);
-    assert_eq!(rt; bad_line(rt.alloc(), b"ask 0 4294967296")?, Some(1));
-    assert_eq!(rt; bad_line(rt.alloc(), b"declare sixteen-letters.")?, None);
+    assert_eq!(rt; error_of(rt.alloc(), b"ask 0 4294967295"), None);
     assert_eq!(rt;
-        bad_line(rt.alloc(), b"\ndeclare seventeen-letters")?,
-        Some(2)
+        error_of(rt.alloc(), b"ask 0 4294967296"),
+        Some(Unreadable(1))
     );
-    assert_eq!(rt; bad_line(rt.alloc(), b"load 1\n")?, Some(1));
-    assert_eq!(rt; bad_line(rt.alloc(), b"load\nload 0G\nfile")?, Some(2));
-    assert_eq!(rt; bad_line(rt.alloc(), b"compare 0 1 256")?, Some(1));
-    assert_eq!(rt; bad_line(rt.alloc(), b"declare\r\n")?, Some(1));
+    assert_eq!(rt; error_of(rt.alloc(), b"declare sixteen-letters."), None);
+    assert_eq!(rt;
+        error_of(rt.alloc(), b"\ndeclare seventeen-letters"),
+        Some(Unreadable(2))
+    );
+    assert_eq!(rt; error_of(rt.alloc(), b"load 1\n"), Some(Unreadable(1)));
+    assert_eq!(rt;
+        error_of(rt.alloc(), b"load\nload 0G\nfile"),
+        Some(Unreadable(2))
+    );
+    assert_eq!(rt;
+        error_of(rt.alloc(), b"compare 0 1 256"),
+        Some(Unreadable(1))
+    );
+    assert_eq!(rt; error_of(rt.alloc(), b"declare\r\n"), Some(Unreadable(1)));
     Ok(())
 }
 
 #[test]
 fn round_trip(rt: HostRuntime) -> Result<(), Fail> {
-    match compose(rt.alloc(), SIX_LINES)? {
-        Composed::Job(job) => {
-            assert_eq!(rt; taken(rt.alloc(), &job)?, (6, None));
-            Ok(())
-        },
-        Composed::Unreadable(_) => Err(Fail::new("unreadable")),
-    }
+    let job = compose(rt.alloc(), SIX_LINES)?;
+    assert_eq!(rt; taken(rt.alloc(), &job)?, (6, None));
+    Ok(())
 }

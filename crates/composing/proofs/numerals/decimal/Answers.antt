@@ -1,20 +1,25 @@
-use Rattle.std.proofs.Common.{◌<◌, ◌⊎◌, get_or, inl, inr, ⊎_elim}
-use Rattle.composing.proofs.Digits.{one_more, no_digit, too_big, all_read}
+use Rattle.std.proofs.Common.{rules, ◌≡◌, sym, ◌∙◌, tests, arith}
+use Rattle.std.specs.Char.{is_ascii_digit}
+use Rattle.std.specs.Str.{IsUtf8}
+use Rattle.std.specs.Str.Parse.{ParsesUnsigned}
+use Rattle.std.proofs.lemmas.Fmt.{IsAscii-from_digits}
+use Rattle.std.proofs.lemmas.Grind.{common_steps}
+use Rattle.std.proofs.lemmas.Iterator.{YieldsList-from_slice}
+use Rattle.std.proofs.lemmas.Iterator.Search.{all_from_yields_List}
+use Rattle.std.proofs.lemmas.Str.{IsUtf8-from_ascii}
+use Rattle.std.proofs.lemmas.Str.Parse.{parse_digits}
+use Rattle.composing.proofs.Digits.{digits, read}
 use Rattle.composing.proofs.numerals.decimal.Goals as goal
 
-pub returns-then-digit-lt48 : goal.returns-then-digit-lt48
-returns-then-digit-lt48 c =
-    let bad : (get_or c.args.word.now c.loop-digit.digit-index 0 < 48) ⊎ (57 < get_or c.args.word.now c.loop-digit.digit-index 0) = ⊎_elim (λ low. inl low) (λ high. inr high.1) c.then-digit-lt48.either in
-    record { said = no_digit c.args.most c.args.word.now c.loop-digit.digit-index c.loop-digit.value c.loop-digit-test.true bad c.loop-digit.invariant.1; small = tt }
-
-pub returns-then-value-most : goal.returns-then-value-most
-returns-then-value-most c =
-    let word = c.args.word.now in
-    let i = c.loop-digit.digit-index in
-    record { said = too_big c.args.most word _ _ c.if-value-most.true (one_more word i c.loop-digit.value c.loop-digit-test.true c.if-digit-lt48.false c.if-digit-gt57.false c.loop-digit.invariant.1); small = tt }
-
-pub loop-digit-preserved : goal.loop-digit-preserved
-loop-digit-preserved c = (c.if-value-most.false, one_more c.args.word.now c.loop-digit.digit-index c.loop-digit.value c.loop-digit-test.true c.if-digit-lt48.false c.if-digit-gt57.false c.loop-digit.invariant.1)
+pub returns-in_err-ok : goal.returns-in_err-ok
+returns-in_err-ok c =
+    let t = sym (all_from_yields_List is_ascii_digit _ _ c.all.result c.all.ensures.ran (YieldsList-from_slice c.args.word.now cc) (λ x b q k. search (rules, tests))) ∙ c.if-not-all.false in
+    let utf8 : IsUtf8 c.args.word.now = IsUtf8-from_ascii _ (IsAscii-from_digits _ (digits.to _ t)) in
+    grind (arith, common_steps, c.from_utf8.ensures.cases)
 
 pub returns : goal.returns
-returns c = record { said = all_read c.args.most c.args.word.now c.loop-digit.digit-index c.loop-digit.value c.if-word-lt1.false c.loop-digit-test.false c.loop-digit.invariant.0 c.loop-digit.invariant.1; small = c.loop-digit.invariant.0 }
+returns c =
+    let t = sym (all_from_yields_List is_ascii_digit _ _ c.all.result c.all.ensures.ran (YieldsList-from_slice c.args.word.now cc) (λ x b q k. search (rules, tests))) ∙ c.if-not-all.false in
+    let text : c.in_ok-ok.field-0.now ≡ c.args.word.now = grind (arith, common_steps, c.from_utf8.ensures.cases) in
+    let parsed : ParsesUnsigned 32 10 c.args.word.now c.parse.result = rw text at c.parse.ensures.value.0 in
+    c.ok-2.ensures.value ∙ read c.args.word.now c.parse.result t (parse_digits digits 32 c.args.word.now c.parse.result parsed t)

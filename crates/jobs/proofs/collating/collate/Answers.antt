@@ -1,21 +1,28 @@
-use Rattle.std.proofs.Common.{◌≡◌, ℕ, List, [], ◌∷◌, ◌++◌, vec_items, Option, sym, ap, ◌∙◌, append-nil}
-use Rattle.jobs.specs.Lines.{bad_line}
-use Rattle.jobs.specs.Collating.{Collated}
-use Rattle.jobs.specs.declared.line.Line.{Line}
-use Rattle.jobs.specs.declared.line.Line.TheVariants.{Refused}
-use Rattle.jobs.proofs.Told.{collated}
+use Rattle.std.proofs.Common.{rules, tests, ◌≡◌, ◌++◌, vec_items, subst, ap, ◌∙◌, arith}
+use Rattle.std.specs.Option.{option_to_list}
+use Rattle.std.proofs.lemmas.Iterator.{YieldsList-from_slice, items_from_collect}
+use Rattle.std.proofs.lemmas.Iterator.Adapters.{YieldsList-from_once}
+use Rattle.std.proofs.lemmas.Iterator.Consumers.{YieldsList-at, YieldsList-from_filter_map, YieldsList-from_chain}
+use Rattle.std.proofs.lemmas.Result.{IfOk-weaker}
+use Rattle.jobs.specs.Lines.{line_of, lines_of, bad_line}
+use Rattle.jobs.specs.Collating.{Answers}
 use Rattle.jobs.proofs.collating.collate.Goals as goal
-use Rattle.jobs.proofs.collating.collate.Goals.{in-Some+in_ok-push, in_default}
 
 pub returns : goal.returns
 returns c =
-    let j = c.in_ok-job.job in
-    let lines = vec_items c.push_lines.new.lines in
-    let made : (lines' : List Line) → lines' ≡ lines ++ bad_line j.bad → Collated c.args.job.now lines' = λ lines' m.
-    collated c.args.job.now (vec_items j.calls) c.deref.result.now j.bad (vec_items c.in_ok-answers.answers) c.deref-2.result.now (vec_items c.new-lines.result) lines lines'
-    c.in_ok-job.ensures c.deref.ensures.value c.in_ok-answers.ensures c.deref-2.ensures.value c.new-lines.ensures.items c.in_ok-push_lines.ensures m in
-    elim c.match-job.branch [
-      | in-Some+in_ok-push w ↦
-          made _ (ap vec_items w.lines-is ∙ w.in_ok-push.ensures.items ∙ ap (λ (n : ℕ). lines ++ Refused n w.in-Some.place ∷ []) w.number.ensures ∙ ap (λ (o : Option ℕ). lines ++ bad_line o) (sym w.in-Some.is))
-      | in_default w ↦ made _ (ap vec_items w.lines-is ∙ sym (append-nil lines) ∙ ap (λ (o : Option ℕ). lines ++ bad_line o) (sym w.in_default.is))
-    ]
+    let job = c.in_ok-job.job in
+    let answers = vec_items c.in_ok-answers.answers in
+    let refused : c.map-refused.result ≡ bad_line job.bad = grind (arith, c.map-refused.ensures.cases) in
+    IfOk-weaker c.collect.result _ _
+    (λ v told. record {
+      calls = vec_items job.calls;
+      bad = job.bad;
+      answers = answers;
+      taken = c.in_ok-job.ensures;
+      law = subst (λ calls. Answers calls answers) c.deref.ensures.value c.in_ok-answers.ensures;
+      told = told ∙ ap (λ line. lines_of answers ++ option_to_list line) refused;
+    })
+    (items_from_collect c.collect.result c.collect.ensures.ran
+    (YieldsList-from_chain
+    (YieldsList-at c.chain.ensures.first (YieldsList-from_filter_map _ line_of (YieldsList-at c.filter_map.ensures.source (YieldsList-from_slice answers (c.iter.ensures.rest ∙ c.deref-2.ensures.value))) c.filter_map.ensures.closure (λ x r q k. search (rules, tests))))
+    (YieldsList-from_once _ c.chain.ensures.second.0) c.chain.ensures.first_done c.chain.ensures.second_done))

@@ -1,14 +1,14 @@
-use Rattle.std.proofs.Common.{vec_items}
-use Rattle.jobs.proofs.Steps.{one_more, to_end, to_bad}
+use Rattle.std.proofs.Common.{arith, ◌≡◌, ◌<◌, length}
+use Rattle.std.proofs.lemmas.Bool.Decides.{nat_tests}
+use Rattle.jobs.proofs.Steps.{to_end, to_bad}
 use Rattle.jobs.proofs.parsing.parse.Goals as goal
 
-pub loop-place-preserved : goal.loop-place-preserved
-loop-place-preserved c =
-    one_more c.args.job.now c.loop-place.place c.in-Some.size c.in-Some.call (vec_items c.loop-place.calls) _
-    c.in_ok-push-in-Some.ensures.items c.in-Some.ensures c.loop-place.invariant
-
-pub returns-in-None : goal.returns-in-None
-returns-in-None c = to_bad c.args.job.now c.loop-place.place (vec_items c.loop-place.calls) c.if-job-gt-LONGEST.false c.loop-place-test.true c.in-None.ensures c.loop-place.invariant
+pub returns-in_default : goal.returns-in_default
+returns-in_default c =
+    let some : 0 < length c.loop-rest.rest.now = grind (arith, nat_tests, c.loop-rest-test.ensures) in
+    to_bad c.args.job.now _ _ (omega arith) some c.in_default.ensures c.loop-rest.invariant
 
 pub returns : goal.returns
-returns c = to_end c.args.job.now c.loop-place.place (vec_items c.loop-place.calls) c.if-job-gt-LONGEST.false c.loop-place-test.false c.loop-place.invariant
+returns c =
+    let none : length c.loop-rest.rest.now ≡ 0 = grind (arith, nat_tests, c.loop-rest-test.ensures) in
+    to_end c.args.job.now _ _ (omega arith) none c.loop-rest.invariant
