@@ -32,3 +32,7 @@ both_table = slice_set blank 17 1
 -- OR on the values 0 and 1
 abbrev pub either_table : List ℕ
 either_table = slice_set (slice_set (slice_set blank 1 1) 16 1) 17 1
+
+-- a table has at each row and column a value that P allows there
+pub record Holds {A : Type 0} (P : ℕ → ℕ → A → Type 0) (t : List A) : Type 0 where
+  pub at : (a b : ℕ) (z : A) → a < 16 → b < 16 → P a b (slice_index_or t (a * 16 + b) z)
