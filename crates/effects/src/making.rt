@@ -58,10 +58,7 @@ pub fn effect_tables<A: EffectAlgebra>() -> EffectTables
     EffectTables {
         count: A::count(),
         combiner_count: A::combiner_count(),
-        statable: array::from_fn(|code| match effect::<A>(code as u8) {
-            Some(effect) => effect.statable(),
-            None => false,
-        }),
+        statable: array::from_fn(|code| effect::<A>(code as u8).is_some_and(|effect| effect.statable())),
         // the value is both row and column
         negation: table(|value, _| u8::from(value == 0)),
         both: table(|first, second| u8::from(first == 1 && second == 1)),
