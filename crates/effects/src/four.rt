@@ -15,10 +15,10 @@ const QUESTIONS: u8 = 6;
 
 #[derive(Clone, Copy, PartialEq, Eq, Debug)]
 pub enum FourEffect {
-    NotApplicable,
-    Permit,
-    Deny,
-    Error,
+    NotApplicable = 0,
+    Permit = 1,
+    Deny = 2,
+    Error = 3,
 }
 
 impl FourEffect {
@@ -79,12 +79,7 @@ impl EffectAlgebra for FourEffect {
     }
 
     fn code(self) -> u8 {
-        match self {
-            FourEffect::NotApplicable => 0,
-            FourEffect::Permit => 1,
-            FourEffect::Deny => 2,
-            FourEffect::Error => 3,
-        }
+        self as u8
     }
 
     fn effect(code: u8) -> FourEffect {

@@ -15,12 +15,12 @@ const QUESTIONS: u8 = 6;
 
 #[derive(Clone, Copy, PartialEq, Eq, Debug)]
 pub enum SixEffect {
-    NotApplicable,
-    Permit,
-    Deny,
-    IndeterminateD,
-    IndeterminateP,
-    IndeterminateDP,
+    NotApplicable = 0,
+    Permit = 1,
+    Deny = 2,
+    IndeterminateD = 3,
+    IndeterminateP = 4,
+    IndeterminateDP = 5,
 }
 
 // One of the two decisions, with the error that could have hidden it.
@@ -105,14 +105,7 @@ impl EffectAlgebra for SixEffect {
     }
 
     fn code(self) -> u8 {
-        match self {
-            SixEffect::NotApplicable => 0,
-            SixEffect::Permit => 1,
-            SixEffect::Deny => 2,
-            SixEffect::IndeterminateD => 3,
-            SixEffect::IndeterminateP => 4,
-            SixEffect::IndeterminateDP => 5,
-        }
+        self as u8
     }
 
     fn effect(code: u8) -> SixEffect {
