@@ -58,22 +58,30 @@ pub fn effect_tables<A: EffectAlgebra>() -> EffectTables
     EffectTables {
         count: A::count(),
         combiner_count: A::combiner_count(),
-        statable: array::from_fn(|code| effect::<A>(code as u8).is_some_and(|effect| effect.statable())),
+        statable: array::from_fn(|code| effect::<A>(code as u8).is_some_and(
+            |effect| effect.statable(),
+        )),
         // the value is both row and column
         negation: table(|value, _| u8::from(value == 0)),
         both: table(|first, second| u8::from(first == 1 && second == 1)),
         either: table(|first, second| u8::from(first == 1 || second == 1)),
-        scope: table(|policy, condition| if condition == 1 { policy } else { not_applicable }),
-        fail: table(|policy, condition| failing::<A>(policy, condition)),
-        combine: [0, 1, 2, 3].map(|combiner| -> [u8; 256]
-            ensures combined { Combines (codes A.EffectAlgebra.effects) combiner result }
-            ensures small { Small result }
-        {
-            table(|first, second| match (effect::<A>(first), effect::<A>(second)) {
-                (Some(first), Some(second)) => A::combine(combiner, first, second).code(),
-                _ => 0,
-            })
+        scope: table(|policy, condition| if condition == 1 {
+            policy
+        } else {
+            not_applicable
         }),
+        fail: table(|policy, condition| failing::<A>(policy, condition)),
+        combine: [0, 1, 2, 3].map(
+            |combiner| -> [u8; 256]
+                ensures combined { Combines (codes A.EffectAlgebra.effects) combiner result }
+                ensures small { Small result }
+            {
+                table(|first, second| match (effect::<A>(first), effect::<A>(second)) {
+                    (Some(first), Some(second)) => A::combine(combiner, first, second).code(),
+                    _ => 0,
+                })
+            },
+        ),
     }
 }
 
@@ -83,13 +91,15 @@ pub fn question_tables<A: EffectAlgebra>() -> QuestionTables
 {
     QuestionTables {
         count: A::question_count(),
-        breaks: [0, 1, 2, 3, 4, 5, 6, 7].map(|question| -> [bool; 256]
-            ensures { Answers A.EffectAlgebra.effects.count (question_codes A.EffectAlgebra.effects A.EffectAlgebra.questions) question result }
-        {
-            table(|first, second| match (effect::<A>(first), effect::<A>(second)) {
-                (Some(first), Some(second)) => A::breaks(question, first, second),
-                _ => false,
-            })
-        }),
+        breaks: [0, 1, 2, 3, 4, 5, 6, 7].map(
+            |question| -> [bool; 256]
+                ensures { Answers A.EffectAlgebra.effects.count (question_codes A.EffectAlgebra.effects A.EffectAlgebra.questions) question result }
+            {
+                table(|first, second| match (effect::<A>(first), effect::<A>(second)) {
+                    (Some(first), Some(second)) => A::breaks(question, first, second),
+                    _ => false,
+                })
+            },
+        ),
     }
 }

@@ -38,8 +38,7 @@ returns g c =
 pub invariant_of-result-clause-small : goal.invariant_of-result-clause-small
 invariant_of-result-clause-small g c =
     let few = g.met.A.EffectAlgebra.lawful.few in
-    let na : c.code-not_applicable.result < 16 = omega (arith, g.met.A.EffectAlgebra.lawful.code_below c.not_applicable.result) in
-    (
+    let na : c.code-not_applicable.result < 16 = omega (arith, g.met.A.EffectAlgebra.lawful.code_below c.not_applicable.result) in (
       small_by _ (λ a b z la lb. let e = c.table.ensures.at a b z la lb in search rules),
       small_by _ (λ a b z la lb. let e = c.table-2.ensures.at a b z la lb in search rules),
       small_by _ (λ a b z la lb. let e = c.table-3.ensures.at a b z la lb in search rules),

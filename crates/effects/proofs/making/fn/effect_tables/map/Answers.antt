@@ -1,4 +1,4 @@
-use Rattle.std.proofs.Common.{rules, ◌+◌, ◌*◌, ◌<◌, ◌∙◌, get_or, arith}
+use Rattle.std.proofs.Common.{rules, ◌<◌, arith}
 use Rattle.effects.proofs.Cells.{cell_by, small_by}
 use Rattle.effects.proofs.making.fn.effect_tables.map.Goals as goal
 
