@@ -2,7 +2,7 @@
 ghost use Rattle.std.specs.Prelude.{◌≡◌, ℕ, ◌+◌, ◌*◌, ◌<◌, ◌≤◌, false, if◌then◌else◌, [], Some, None, nat_lt, slice_index_or};
 ghost use Rattle.effects.specs.Codes.{codes, question_codes};
 ghost use Rattle.effects.specs.Cells.{cell as cell_of, Small, Holds};
-ghost use Rattle.effects.specs.Tables.{failing as fail_of, Combines, Answers, Tables, Asked};
+ghost use Rattle.effects.specs.Tables.{Combines, Answers, Tables, Asked};
 
 use crate::algebra::EffectAlgebra;
 use crate::tables::{EffectTables, QuestionTables};
@@ -38,19 +38,7 @@ fn effect<A: EffectAlgebra>(code: u8) -> Option<A>
     }
 }
 
-// One cell of the table of FAIL, 0 where there is no such effect.
-fn failing<A: EffectAlgebra>(policy: u8, condition: u8) -> u8
-    ensures value { policy < A.EffectAlgebra.effects.count → result ≡ fail_of (codes A.EffectAlgebra.effects) policy condition }
-    ensures small { result < 16 }
-{
-    match effect::<A>(policy) {
-        Some(effect) if condition == 1 => effect.failed().code(),
-        Some(_) => policy,
-        None => 0,
-    }
-}
-
-// Writes the effects of an algebra down as tables. A cell that no algebra reaches is 0.
+// Writes the effects of an algebra down as tables. A cell that no algebra reaches has any code below 16.
 pub fn effect_tables<A: EffectAlgebra>() -> EffectTables
     ensures { Tables (codes A.EffectAlgebra.effects) result }
 {
@@ -70,7 +58,10 @@ pub fn effect_tables<A: EffectAlgebra>() -> EffectTables
         } else {
             not_applicable
         }),
-        fail: table(|policy, condition| failing::<A>(policy, condition)),
+        fail: table(|policy, condition| match effect::<A>(policy) {
+            Some(effect) if condition == 1 => effect.failed().code(),
+            _ => policy,
+        }),
         combine: [0, 1, 2, 3].map(
             |combiner| -> [u8; 256]
                 ensures combined { Combines (codes A.EffectAlgebra.effects) combiner result }
