@@ -12,19 +12,19 @@ returns-then-left-eq0 t c =
 pub overflow_mul-weight : goal.overflow_mul-weight
 overflow_mul-weight t c =
     let e : c.args.left ≡ suc (c.args.left - 1) = omega arith in
-    let w = weight_fits c.args.weight (c.args.left - 1) c.args.left 65536 e c.requires.1 in
+    let w = weight_fits c.args.weight (c.args.left - 1) c.args.left 65536 e c.requires.within in
     omega arith
 
 pub overflow_mul-weight-2 : goal.overflow_mul-weight-2
 overflow_mul-weight-2 t c =
     let e : c.args.left ≡ suc (c.args.left - 1) = omega arith in
-    let w = weight_fits c.args.weight (c.args.left - 1) c.args.left 65536 e c.requires.1 in
+    let w = weight_fits c.args.weight (c.args.left - 1) c.args.left 65536 e c.requires.within in
     omega arith
 
 pub overflow_add-mask : goal.overflow_add-mask
 overflow_add-mask t c =
     let e : c.args.left ≡ suc (c.args.left - 1) = omega arith in
-    let w = weight_fits c.args.weight (c.args.left - 1) c.args.left 65536 e c.requires.1 in
+    let w = weight_fits c.args.weight (c.args.left - 1) c.args.left 65536 e c.requires.within in
     omega arith
 
 pub push_requests-requires : goal.push_requests-requires
