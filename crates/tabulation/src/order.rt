@@ -12,10 +12,10 @@ fn push_requests(out: &mut Vec<u32>, mask: u32, weight: u32, left: u8) -> Result
 {
     if left == 0 {
         out.push(mask)?;
-        return Ok(());
+    } else {
+        push_requests(out, mask, weight * 2, left - 1)?;
+        push_requests(out, mask + weight, weight * 2, left - 1)?;
     }
-    push_requests(out, mask, weight * 2, left - 1)?;
-    push_requests(out, mask + weight, weight * 2, left - 1)?;
     Ok(())
 }
 

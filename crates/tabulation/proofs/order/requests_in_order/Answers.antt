@@ -1,4 +1,4 @@
-use Rattle.std.proofs.Common.{◌≡◌, ℕ, ◌+◌, ◌*◌, List, ◌++◌, map, vec_items, ap, ◌∙◌}
+use Rattle.std.proofs.Common.{ℕ, ◌+◌, ◌*◌, List, ◌++◌, map, ap, ◌∙◌}
 use Rattle.tabulation.specs.Order.{requests}
 use Rattle.tabulation.proofs.Listing.{laid_all}
 use Rattle.tabulation.proofs.order.requests_in_order.Goals as goal

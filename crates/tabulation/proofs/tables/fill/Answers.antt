@@ -1,4 +1,4 @@
-use Rattle.std.proofs.Common.{vec_items, sym, refl}
+use Rattle.std.proofs.Common.{vec_items, refl}
 use Rattle.std.proofs.lemmas.Result.{err_from_is_err_and}
 use Rattle.effects.specs.Codes.{codes}
 use Rattle.effects.proofs.Closing.{closed}
@@ -11,7 +11,7 @@ returns-in_err-code g c =
     let M = g.A.EffectAlgebra.effects in
     let told = c.in_err-code.ensures (codes M) (closed M g.met.A.EffectAlgebra.lawful) c.effect_tables-tables.ensures in
     let p = err_from_is_err_and c.from_residual.result c.from_residual.ensures.1 in
-    rw (p.1, p.2) (c.loop-mask.mask-index, c.loop-mask-test.true, sym told)
+    rw (p.1, p.2) (c.loop-mask.mask-index, c.loop-mask-test.true, cc told)
 
 pub loop-mask-preserved : goal.loop-mask-preserved
 loop-mask-preserved g c =
