@@ -1,5 +1,5 @@
 // Why there is no table.
-ghost use Rattle.std.specs.Prelude.{◌≡◌};
+ghost use Rattle.std.specs.Prelude.{◌≡◌, Some};
 ghost use Rattle.tabulation.specs.declared.error.TabulateError.TheVariants.{Unreadable, Refused, OutOfMemory};
 
 use crate::input::BadInput;
@@ -51,6 +51,10 @@ impl<T: Drop> From<AllocFailed<T>> for TabulateError {
 
 // A refusal by its number and its place.
 impl fmt::Display for TabulateError {
+    ghost use Rattle.tabulation.specs.Errors.{error_text};
+
+    ghost output = { λ e. Some (error_text e) };
+
     fn fmt<W: fmt::Write>(&self, f: &mut fmt::Formatter<W>) -> fmt::Result {
         match self {
             TabulateError::Unreadable(bad) => write!(f, "{bad}"),

@@ -1,5 +1,5 @@
 // What an input asks for.
-ghost use Rattle.std.specs.Prelude.{◌≤◌, IfOk};
+ghost use Rattle.std.specs.Prelude.{◌≤◌, Some, IfOk};
 
 use std::error::Error;
 use std::fmt;
@@ -33,6 +33,10 @@ pub enum BadInput {
 }
 
 impl fmt::Display for BadInput {
+    ghost use Rattle.tabulation.specs.Inputs.{complaint};
+
+    ghost output = { λ bad. Some (complaint bad) };
+
     fn fmt<W: fmt::Write>(&self, f: &mut fmt::Formatter<W>) -> fmt::Result {
         f.write_str(match self {
             BadInput::Short => "the input is shorter than its two counts",
