@@ -1,18 +1,14 @@
 // Reading leans on nothing but what the interface asks.
 use crate::hostile::{Odd, Single};
-use effects::{EffectAlgebra, cell, effect_tables, question_tables};
-use tape::read;
+use crate::reading::told;
+use effects::{cell, effect_tables, question_tables};
 
-// What a tape answers at a request, or the number of its refusal.
-fn told<A: EffectAlgebra>(facts: u8, tape: &[u8], request: u32) -> Result<u8, u8> {
-    read::<A>(facts, tape, request).map_err(|at| at.refusal.number())
-}
-
-// The same under both algebras.
+// What a tape answers under both algebras, or the number of its refusal.
 fn both(facts: u8, tape: &[u8], request: u32) -> (Result<u8, u8>, Result<u8, u8>) {
+    let number = |(number, _place): (u8, usize)| number;
     (
-        told::<Odd>(facts, tape, request),
-        told::<Single>(facts, tape, request),
+        told::<Odd>(facts, tape, request).map_err(number),
+        told::<Single>(facts, tape, request).map_err(number),
     )
 }
 
