@@ -26,3 +26,15 @@ decisions_break q a b =
     (cond (q == 4) ((permits a && not (permits b)) || (denies a && not (denies b)))
     (cond (q == 5) ((permits a && denies b) || (denies a && permits b))
     false))))
+
+-- question 0 is broken when two effects differ; 1 to 5 look at what they decide
+abbrev pub effects_break : {E : Type 0} → (E → E → Bool) → (E → Decision) → ℕ → E → E → Bool
+effects_break same decision q a b = cond (q == 0) (not (same a b)) (decisions_break q (decision a) (decision b))
+
+-- one of the two is this effect
+abbrev pub either : {E : Type 0} → (E → E → Bool) → E → E → E → Bool
+either same effect a b = same a effect || same b effect
+
+-- the first unless it is this effect, then the second
+abbrev pub first_but : {E : Type 0} → (E → E → Bool) → E → E → E → E
+first_but same absent a b = cond (same a absent) b a

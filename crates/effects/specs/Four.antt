@@ -1,7 +1,7 @@
 -- Four effects, in the manner of Hughes and Bultan: an error anywhere is an error of the whole.
-use Rattle.std.specs.Prelude.{ℕ, Bool, cond, not, ◌||◌, ◌==◌}
+use Rattle.std.specs.Prelude.{ℕ, Bool, cond, ◌||◌, ◌==◌}
 use Rattle.effects.specs.Effects.{Effects, Questions}
-use Rattle.effects.specs.Decisions.{decisions_break}
+use Rattle.effects.specs.Decisions.{effects_break, either, first_but}
 use Rattle.effects.specs.declared.decision.Decision.{Decision}
 use Rattle.effects.specs.declared.decision.Decision.TheVariants.{Permit as permits, Deny as denies, Neither as neither}
 use Rattle.effects.specs.declared.four.FourEffect.{FourEffect}
@@ -22,18 +22,14 @@ effect_of n = cond (n == 1) Permit (cond (n == 2) Deny (cond (n == 3) Error NotA
 abbrev pub same : FourEffect → FourEffect → Bool
 same a b = code_of a == code_of b
 
--- one of the two is x
-abbrev pub either : FourEffect → FourEffect → FourEffect → Bool
-either x a b = same a x || same b x
-
 -- Error if either is, else the strong effect if either is, else the weak one if either is, else not applicable
 abbrev pub overrides : FourEffect → FourEffect → FourEffect → FourEffect → FourEffect
 overrides strong weak a b =
-    cond (either Error a b) Error (cond (either strong a b) strong (cond (either weak a b) weak NotApplicable))
+    cond (either same Error a b) Error (cond (either same strong a b) strong (cond (either same weak a b) weak NotApplicable))
 
 -- the first unless it is not applicable, then the second
 abbrev pub first_applicable : FourEffect → FourEffect → FourEffect
-first_applicable a b = cond (same a NotApplicable) b a
+first_applicable a b = first_but same NotApplicable a b
 
 -- if one is not applicable, the other; else an error
 abbrev pub only_one : FourEffect → FourEffect → FourEffect
@@ -66,9 +62,9 @@ four = record {
   combined = combined;
 }
 
--- question 0 is broken when the effects differ; 1 to 5 look at what they decide
+-- the six questions of effects that decide
 abbrev pub four_questions : Questions FourEffect
 four_questions = record {
   questions = 6;
-  breaks = λ q a b. cond (q == 0) (not (same a b)) (decisions_break q (decision_of a) (decision_of b));
+  breaks = effects_break same decision_of;
 }

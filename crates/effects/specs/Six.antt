@@ -1,7 +1,7 @@
 -- Six effects, those of XACML 3.0: an error tells which decisions it could have hidden.
-use Rattle.std.specs.Prelude.{ℕ, Bool, cond, not, ◌&&◌, ◌||◌, ◌==◌}
+use Rattle.std.specs.Prelude.{ℕ, Bool, cond, ◌&&◌, ◌||◌, ◌==◌}
 use Rattle.effects.specs.Effects.{Effects, Questions}
-use Rattle.effects.specs.Decisions.{decisions_break}
+use Rattle.effects.specs.Decisions.{effects_break, either, first_but}
 use Rattle.effects.specs.declared.decision.Decision.{Decision}
 use Rattle.effects.specs.declared.decision.Decision.TheVariants.{Permit as permits, Deny as denies, Neither as neither}
 use Rattle.effects.specs.declared.six.SixEffect.{SixEffect}
@@ -26,10 +26,6 @@ effect_of n =
 abbrev pub same : SixEffect → SixEffect → Bool
 same a b = code_of a == code_of b
 
--- one of the two is x
-abbrev pub either : SixEffect → SixEffect → SixEffect → Bool
-either x a b = same a x || same b x
-
 -- the denying side is Deny and Indeterminate{D}, the permitting one Permit and Indeterminate{P}
 abbrev pub denying : Side
 denying = record { sure = Deny; unsure = IndeterminateD }
@@ -37,26 +33,30 @@ denying = record { sure = Deny; unsure = IndeterminateD }
 abbrev pub permitting : Side
 permitting = record { sure = Permit; unsure = IndeterminateP }
 
+-- an effect is of the side s
+abbrev pub has : Side → SixEffect → Bool
+has s a = same a s.sure || same a s.unsure
+
 -- one of the two is x, and the other is of the side s
 abbrev pub meets : SixEffect → Side → SixEffect → SixEffect → Bool
-meets x s a b = (same a x && (same b s.sure || same b s.unsure)) || (same b x && (same a s.sure || same a s.unsure))
+meets x s a b = (same a x && has s b) || (same b x && has s a)
 
 -- the first that fits: the strong decision if either is it; {DP} if either is; {DP} if one is the strong side's error
 -- and the other of the weak side; the strong side's error if either is; the weak decision if either is; the weak
 -- side's error if either is; not applicable
 abbrev pub overrides : Side → Side → SixEffect → SixEffect → SixEffect
 overrides strong weak a b =
-    cond (either strong.sure a b) strong.sure
-    (cond (either IndeterminateDP a b) IndeterminateDP
+    cond (either same strong.sure a b) strong.sure
+    (cond (either same IndeterminateDP a b) IndeterminateDP
     (cond (meets strong.unsure weak a b) IndeterminateDP
-    (cond (either strong.unsure a b) strong.unsure
-    (cond (either weak.sure a b) weak.sure
-    (cond (either weak.unsure a b) weak.unsure
+    (cond (either same strong.unsure a b) strong.unsure
+    (cond (either same weak.sure a b) weak.sure
+    (cond (either same weak.unsure a b) weak.unsure
     NotApplicable)))))
 
 -- the first unless it is not applicable, then the second
 abbrev pub first_applicable : SixEffect → SixEffect → SixEffect
-first_applicable a b = cond (same a NotApplicable) b a
+first_applicable a b = first_but same NotApplicable a b
 
 -- combiner 0 is deny-overrides, 1 permit-overrides, 2 first-applicable
 abbrev pub combined : ℕ → SixEffect → SixEffect → SixEffect
@@ -94,9 +94,9 @@ six = record {
   combined = combined;
 }
 
--- question 0 is broken when the effects differ; 1 to 5 look at what they decide
+-- the six questions of effects that decide
 abbrev pub six_questions : Questions SixEffect
 six_questions = record {
   questions = 6;
-  breaks = λ q a b. cond (q == 0) (not (same a b)) (decisions_break q (decision_of a) (decision_of b));
+  breaks = effects_break same decision_of;
 }

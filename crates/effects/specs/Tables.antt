@@ -1,5 +1,5 @@
 -- The tables of an algebra.
-use Rattle.std.specs.Prelude.{◌≡◌, ℕ, ◌+◌, ◌-◌, ◌*◌, ◌<◌, ◌≤◌, Bool, false, cond, ◌&&◌, ◌||◌, [], ◌==◌, slice_index_or}
+use Rattle.std.specs.Prelude.{◌≡◌, ℕ, ◌+◌, ◌-◌, ◌*◌, ◌<◌, ◌≤◌, Bool, false, cond, ◌&&◌, ◌||◌, List, [], ◌==◌, slice_index_or}
 use Rattle.effects.specs.Cells.{cell}
 use Rattle.effects.specs.Codes.{Codes, QuestionCodes}
 use Rattle.effects.specs.declared.tables.EffectTables.{EffectTables}
@@ -17,6 +17,14 @@ scoped na policy condition = cond (condition == 1) policy na
 abbrev pub failing : Codes → ℕ → ℕ → ℕ
 failing K policy condition = cond (condition == 1) (K.failed policy) policy
 
+-- a table of combiner k: the first policy's code is the row, the second's the column
+abbrev pub Combines : Codes → ℕ → List ℕ → Type 0
+Combines K k t = (a b : ℕ) → k < K.combiners → a < K.count → b < K.count → cell t a b ≡ K.combined k a b
+
+-- a table of question q, at codes below the count
+abbrev pub Answers : ℕ → QuestionCodes → ℕ → List Bool → Type 0
+Answers count Q q t = (a b : ℕ) → q < Q.questions → a < count → b < count → slice_index_or t (a * 16 + b) false ≡ Q.breaks q a b
+
 -- the tables are those of the algebra K
 pub record Tables (K : Codes) (t : EffectTables) : Type 0 where
   pub counted : t.count ≡ K.count
@@ -29,10 +37,9 @@ pub record Tables (K : Codes) (t : EffectTables) : Type 0 where
   -- a policy's code is the row, a condition's value the column
   pub scope : (a b : ℕ) → a < K.count → b ≤ 1 → cell t.scope a b ≡ scoped K.not_applicable a b
   pub fail : (a b : ℕ) → a < K.count → b ≤ 1 → cell t.fail a b ≡ failing K a b
-  -- the first policy's code is the row, the second's the column
-  pub combine : (k a b : ℕ) → k < K.combiners → a < K.count → b < K.count → cell (slice_index_or t.combine k []) a b ≡ K.combined k a b
+  pub combine : (k : ℕ) → Combines K k (slice_index_or t.combine k [])
 
 -- the question tables are those of Q, at codes below the count
 pub record Asked (count : ℕ) (Q : QuestionCodes) (t : QuestionTables) : Type 0 where
   pub counted : t.count ≡ Q.questions
-  pub breaks : (q a b : ℕ) → q < Q.questions → a < count → b < count → slice_index_or (slice_index_or t.breaks q []) (a * 16 + b) false ≡ Q.breaks q a b
+  pub breaks : (q : ℕ) → Answers count Q q (slice_index_or t.breaks q [])

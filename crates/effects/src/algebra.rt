@@ -19,7 +19,7 @@ pub trait EffectAlgebra: Copy {
     fn code(self) -> u8
         ensures { result ≡ effects.code self };
 
-    // The effect of a code.
+    // The effect of a code. No TryFrom: below the count there is one, and no error.
     fn effect(code: u8) -> Self
         requires { code < effects.count }
         ensures { result ≡ effects.effect code };
@@ -41,7 +41,7 @@ pub trait EffectAlgebra: Copy {
         ensures { result ≡ effects.combiners };
 
     // The effect that a combiner gives for a first and a second; any effect where there is no such combiner. An algebra
-    // may have none, so this cannot be required of a caller.
+    // may have none, so this cannot be required of a caller. A combiner is an operand byte of a tape, and so no enum.
     fn combine(combiner: u8, first: Self, second: Self) -> Self
         ensures { combiner < effects.combiners → result ≡ effects.combined combiner first second };
 
@@ -50,6 +50,7 @@ pub trait EffectAlgebra: Copy {
         ensures { result ≡ questions.questions };
 
     // Whether a pair (first, second) breaks a question; any answer where there is no such question, as with combiners.
+    // A question is a byte of a job, and so no enum.
     fn breaks(question: u8, first: Self, second: Self) -> bool
         ensures { question < questions.questions → result ≡ questions.breaks question first second };
 

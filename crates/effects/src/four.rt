@@ -1,10 +1,10 @@
 // Four effects, in the manner of Hughes and Bultan: an error anywhere is an error of the whole.
 ghost use Rattle.std.specs.Prelude.{◌≡◌};
-ghost use Rattle.effects.specs.Four.{four, four_questions, either, overrides, first_applicable, only_one, decision_of};
+ghost use Rattle.effects.specs.Four.{four, four_questions, overrides, only_one, decision_of};
 ghost use Rattle.std.proofs.Common.{rules};
 
 use crate::algebra::EffectAlgebra;
-use crate::decision::Decision;
+use crate::decision::{Decides, Decision, breaks, either, first_but};
 
 // How many effects, combiners and questions there are.
 const COUNT: u8 = 4;
@@ -15,20 +15,13 @@ const QUESTIONS: u8 = 6;
 
 #[derive(Clone, Copy, PartialEq, Eq, Debug)]
 pub enum FourEffect {
-    NotApplicable,
-    Permit,
-    Deny,
-    Error,
+    NotApplicable = 0,
+    Permit = 1,
+    Deny = 2,
+    Error = 3,
 }
 
 impl FourEffect {
-    // Whether one of the two is this effect.
-    fn either(self, first: FourEffect, second: FourEffect) -> bool
-        ensures { result ≡ either self first second }
-    {
-        first == self || second == self
-    }
-
     // Error if either is, else the strong effect if either is, else the weak one if either is.
     fn overrides(
         strong: FourEffect,
@@ -38,25 +31,14 @@ impl FourEffect {
     ) -> FourEffect
         ensures { result ≡ overrides strong weak first second }
     {
-        if FourEffect::Error.either(first, second) {
+        if either(FourEffect::Error, first, second) {
             FourEffect::Error
-        } else if strong.either(first, second) {
+        } else if either(strong, first, second) {
             strong
-        } else if weak.either(first, second) {
+        } else if either(weak, first, second) {
             weak
         } else {
             FourEffect::NotApplicable
-        }
-    }
-
-    // The first unless it is not applicable, then the second.
-    fn first_applicable(first: FourEffect, second: FourEffect) -> FourEffect
-        ensures { result ≡ first_applicable first second }
-    {
-        if first == FourEffect::NotApplicable {
-            second
-        } else {
-            first
         }
     }
 
@@ -64,19 +46,17 @@ impl FourEffect {
     fn only_one(first: FourEffect, second: FourEffect) -> FourEffect
         ensures { result ≡ only_one first second }
     {
-        if first == FourEffect::NotApplicable {
-            second
-        } else if second == FourEffect::NotApplicable {
-            first
-        } else {
-            FourEffect::Error
+        match (first, second) {
+            (FourEffect::NotApplicable, other) | (other, FourEffect::NotApplicable) => other,
+            _ => FourEffect::Error,
         }
     }
+}
 
-    // What the effect decides.
-    fn decision(self) -> Decision
-        ensures { result ≡ decision_of self }
-    {
+impl Decides for FourEffect {
+    ghost decision = { decision_of };
+
+    fn decision(self) -> Decision {
         match self {
             FourEffect::Permit => Decision::Permit,
             FourEffect::Deny => Decision::Deny,
@@ -99,12 +79,7 @@ impl EffectAlgebra for FourEffect {
     }
 
     fn code(self) -> u8 {
-        match self {
-            FourEffect::NotApplicable => 0,
-            FourEffect::Permit => 1,
-            FourEffect::Deny => 2,
-            FourEffect::Error => 3,
-        }
+        self as u8
     }
 
     fn effect(code: u8) -> FourEffect {
@@ -121,7 +96,7 @@ impl EffectAlgebra for FourEffect {
     }
 
     fn statable(self) -> bool {
-        self == FourEffect::Permit || self == FourEffect::Deny
+        matches!(self, FourEffect::Permit | FourEffect::Deny)
     }
 
     fn failed(self) -> FourEffect {
@@ -136,7 +111,7 @@ impl EffectAlgebra for FourEffect {
         match combiner {
             0 => FourEffect::overrides(FourEffect::Deny, FourEffect::Permit, first, second),
             1 => FourEffect::overrides(FourEffect::Permit, FourEffect::Deny, first, second),
-            2 => FourEffect::first_applicable(first, second),
+            2 => first_but(FourEffect::NotApplicable, first, second),
             _ => FourEffect::only_one(first, second),
         }
     }
@@ -146,10 +121,6 @@ impl EffectAlgebra for FourEffect {
     }
 
     fn breaks(question: u8, first: FourEffect, second: FourEffect) -> bool {
-        if question == 0 {
-            first != second
-        } else {
-            Decision::breaks(question, first.decision(), second.decision())
-        }
+        breaks(question, first, second)
     }
 }

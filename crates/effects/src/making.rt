@@ -1,197 +1,78 @@
 // The tables of an algebra.
-ghost use Rattle.std.specs.Prelude.{◌≡◌, ℕ, ◌+◌, ◌*◌, ◌<◌, ◌≤◌, false, [], length, slice_index_or};
+ghost use Rattle.std.specs.Prelude.{◌≡◌, ℕ, ◌+◌, ◌*◌, ◌<◌, ◌≤◌, false, if◌then◌else◌, [], Some, None, nat_lt, slice_index_or};
 ghost use Rattle.effects.specs.Codes.{codes, question_codes};
-ghost use Rattle.effects.specs.Cells.{cell as cell_of, Filled, Small, negation_table, both_table, either_table};
-ghost use Rattle.effects.specs.Tables.{scoped as scope_of, failing as fail_of, Tables, Asked};
+ghost use Rattle.effects.specs.Cells.{cell as cell_of, Small, Holds};
+ghost use Rattle.effects.specs.Tables.{Combines, Answers, Tables, Asked};
 
 use crate::algebra::EffectAlgebra;
 use crate::tables::{EffectTables, QuestionTables};
+use std::array;
 
 // What a table says of two codes; 0 where one of them is not below 16.
 pub fn cell(table: &[u8; 256], first: u8, second: u8) -> u8
     ensures { result ≡ cell_of table.now first second }
 {
-    if first >= 16 {
-        return 0;
-    }
-    if second >= 16 {
-        return 0;
-    }
-    table[first as usize * 16 + second as usize]
-}
-
-// NOT: the value is both row and column.
-fn negation() -> [u8; 256]
-    ensures { result ≡ negation_table }
-{
-    let mut table = [0u8; 256];
-    table[0] = 1;
-    table
-}
-
-// AND.
-fn both() -> [u8; 256]
-    ensures { result ≡ both_table }
-{
-    let mut table = [0u8; 256];
-    table[17] = 1;
-    table
-}
-
-// OR.
-fn either() -> [u8; 256]
-    ensures { result ≡ either_table }
-{
-    let mut table = [0u8; 256];
-    table[1] = 1;
-    table[16] = 1;
-    table[17] = 1;
-    table
-}
-
-// One cell of the table of SCOPE, by the code of not applicable.
-fn scoped(not_applicable: u8, policy: u8, condition: u8) -> u8
-    requires { (not_applicable < 16) × (policy < 16) }
-    ensures value { result ≡ scope_of not_applicable policy condition }
-    ensures small { result < 16 }
-{
-    if condition == 1 {
-        policy
+    if first < 16 && second < 16 {
+        table[first as usize * 16 + second as usize]
     } else {
-        not_applicable
+        0
     }
 }
 
-// One cell of the table of FAIL, 0 where there is no such effect.
-fn failing<A: EffectAlgebra>(policy: u8, condition: u8) -> u8
-    ensures value { policy < A.EffectAlgebra.effects.count → result ≡ fail_of (codes A.EffectAlgebra.effects) policy condition }
-    ensures small { result < 16 }
+// A table of 16 by 16 cells, each of them written by its row and its column.
+fn table<T, F: Fn(u8, u8) -> T>(cell: F) -> [T; 256]
+    requires { (a b : ℕ) → a < 16 → b < 16 → F.pre cell a b }
+    ensures { Holds (F.post cell) result }
 {
-    if policy >= A::count() {
-        return 0;
-    }
-    if condition == 1 {
-        A::effect(policy).failed().code()
+    array::from_fn(|n| cell((n / 16) as u8, (n % 16) as u8))
+}
+
+// The effect of a code, if there is one.
+fn effect<A: EffectAlgebra>(code: u8) -> Option<A>
+    ensures { result ≡ (if nat_lt code A.EffectAlgebra.effects.count then Some (A.EffectAlgebra.effects.effect code) else None) }
+{
+    if code < A::count() {
+        Some(A::effect(code))
     } else {
-        policy
+        None
     }
 }
 
-// One cell of a combiner's table, 0 where there is no such effect.
-fn combined<A: EffectAlgebra>(combiner: u8, first: u8, second: u8) -> u8
-    requires { combiner < A.EffectAlgebra.effects.combiners }
-    ensures value { first < A.EffectAlgebra.effects.count → second < A.EffectAlgebra.effects.count → result ≡ (codes A.EffectAlgebra.effects).combined combiner first second }
-    ensures small { result < 16 }
-{
-    if first >= A::count() {
-        return 0;
-    }
-    if second >= A::count() {
-        return 0;
-    }
-    A::combine(combiner, A::effect(first), A::effect(second)).code()
-}
-
-fn scope_table(not_applicable: u8) -> [u8; 256]
-    requires { not_applicable < 16 }
-    ensures filled { Filled 0 16 16 (scope_of not_applicable) result 256 }
-    ensures small { Small result }
-{
-    let mut table = [0u8; 256];
-    for n in 0..256 {
-        let code = scoped(not_applicable, (n / 16) as u8, (n % 16) as u8);
-        table[n] = code;
-    }
-    table
-}
-
-fn fail_table<A: EffectAlgebra>() -> [u8; 256]
-    ensures filled { Filled 0 A.EffectAlgebra.effects.count 16 (fail_of (codes A.EffectAlgebra.effects)) result 256 }
-    ensures small { Small result }
-{
-    let mut table = [0u8; 256];
-    for n in 0..256 {
-        let code = failing::<A>((n / 16) as u8, (n % 16) as u8);
-        table[n] = code;
-    }
-    table
-}
-
-fn combiner_table<A: EffectAlgebra>(combiner: u8) -> [u8; 256]
-    requires { combiner < A.EffectAlgebra.effects.combiners }
-    ensures filled { Filled 0 A.EffectAlgebra.effects.count A.EffectAlgebra.effects.count ((codes A.EffectAlgebra.effects).combined combiner) result 256 }
-    ensures small { Small result }
-{
-    let mut table = [0u8; 256];
-    for n in 0..256 {
-        let code = combined::<A>(combiner, (n / 16) as u8, (n % 16) as u8);
-        table[n] = code;
-    }
-    table
-}
-
-fn question_table<A: EffectAlgebra>(question: u8) -> [bool; 256]
-    requires { question < A.EffectAlgebra.questions.questions }
-    ensures { Filled false A.EffectAlgebra.effects.count A.EffectAlgebra.effects.count ((question_codes A.EffectAlgebra.effects A.EffectAlgebra.questions).breaks question) result 256 }
-{
-    let count = A::count();
-    let mut table = [false; 256];
-    for n in 0..256 {
-        let first = (n / 16) as u8;
-        let second = (n % 16) as u8;
-        if first < count && second < count {
-            let broken = A::breaks(question, A::effect(first), A::effect(second));
-            table[n] = broken;
-        }
-    }
-    table
-}
-
-fn statable<A: EffectAlgebra>() -> [bool; 16]
-    ensures { (e : ℕ) → e < 16 → e < A.EffectAlgebra.effects.count → slice_index_or result e false ≡ (codes A.EffectAlgebra.effects).statable e }
-{
-    let count = A::count();
-    let mut table = [false; 16];
-    for code in 0..16 {
-        if code < count {
-            let stated = A::effect(code).statable();
-            table[code as usize] = stated;
-        }
-    }
-    table
-}
-
-// The table of a combiner, blank where there is no such combiner.
-fn combiner_or_blank<A: EffectAlgebra>(combiner: u8) -> [u8; 256]
-    ensures filled { combiner < A.EffectAlgebra.effects.combiners → Filled 0 A.EffectAlgebra.effects.count A.EffectAlgebra.effects.count ((codes A.EffectAlgebra.effects).combined combiner) result 256 }
-    ensures small { Small result }
-{
-    if combiner < A::combiner_count() {
-        combiner_table::<A>(combiner)
-    } else {
-        [0u8; 256]
-    }
-}
-
-// Writes the effects of an algebra down as tables.
+// Writes the effects of an algebra down as tables. A cell that no algebra reaches has any code below 16.
 pub fn effect_tables<A: EffectAlgebra>() -> EffectTables
     ensures { Tables (codes A.EffectAlgebra.effects) result }
 {
+    let not_applicable = A::not_applicable().code();
     EffectTables {
         count: A::count(),
         combiner_count: A::combiner_count(),
-        statable: statable::<A>(),
-        negation: negation(),
-        both: both(),
-        either: either(),
-        scope: scope_table(A::not_applicable().code()),
-        fail: fail_table::<A>(),
-        combine: [
-            combiner_or_blank::<A>(0),
-            combiner_or_blank::<A>(1),
-            combiner_or_blank::<A>(2),
-            combiner_or_blank::<A>(3),
-        ],
+        statable: array::from_fn(|code| effect::<A>(code as u8).is_some_and(
+            |effect| effect.statable(),
+        )),
+        // the value is both row and column
+        negation: table(|value, _| u8::from(value == 0)),
+        both: table(|first, second| u8::from(first == 1 && second == 1)),
+        either: table(|first, second| u8::from(first == 1 || second == 1)),
+        scope: table(|policy, condition| if condition == 1 {
+            policy
+        } else {
+            not_applicable
+        }),
+        fail: table(|policy, condition| match effect::<A>(policy) {
+            Some(effect) if condition == 1 => effect.failed().code(),
+            _ => policy,
+        }),
+        combine: [0, 1, 2, 3].map(
+            |combiner| -> [u8; 256]
+                ensures combined { Combines (codes A.EffectAlgebra.effects) combiner result }
+                ensures small { Small result }
+            {
+                table(|first, second| match (effect::<A>(first), effect::<A>(second)) {
+                    (Some(first), Some(second)) => A::combine(combiner, first, second).code(),
+                    _ => 0,
+                })
+            },
+        ),
     }
 }
 
@@ -199,12 +80,17 @@ pub fn effect_tables<A: EffectAlgebra>() -> EffectTables
 pub fn question_tables<A: EffectAlgebra>() -> QuestionTables
     ensures { Asked A.EffectAlgebra.effects.count (question_codes A.EffectAlgebra.effects A.EffectAlgebra.questions) result }
 {
-    let count = A::question_count();
-    let mut breaks = [[false; 256]; 8];
-    for q in 0..8 {
-        if q < count {
-            breaks[q as usize] = question_table::<A>(q);
-        }
+    QuestionTables {
+        count: A::question_count(),
+        breaks: [0, 1, 2, 3, 4, 5, 6, 7].map(
+            |question| -> [bool; 256]
+                ensures { Answers A.EffectAlgebra.effects.count (question_codes A.EffectAlgebra.effects A.EffectAlgebra.questions) question result }
+            {
+                table(|first, second| match (effect::<A>(first), effect::<A>(second)) {
+                    (Some(first), Some(second)) => A::breaks(question, first, second),
+                    _ => false,
+                })
+            },
+        ),
     }
-    QuestionTables { count, breaks }
 }

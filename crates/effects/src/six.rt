@@ -1,10 +1,10 @@
 // Six effects, those of XACML 3.0: an error tells which decisions it could have hidden.
 ghost use Rattle.std.specs.Prelude.{◌≡◌};
-ghost use Rattle.effects.specs.Six.{six, six_questions, either, meets, overrides, first_applicable, decision_of};
+ghost use Rattle.effects.specs.Six.{six, six_questions, has, meets, overrides, decision_of};
 ghost use Rattle.std.proofs.Common.{rules};
 
 use crate::algebra::EffectAlgebra;
-use crate::decision::Decision;
+use crate::decision::{Decides, Decision, breaks, either, first_but};
 
 // How many effects, combiners and questions there are.
 const COUNT: u8 = 6;
@@ -15,12 +15,12 @@ const QUESTIONS: u8 = 6;
 
 #[derive(Clone, Copy, PartialEq, Eq, Debug)]
 pub enum SixEffect {
-    NotApplicable,
-    Permit,
-    Deny,
-    IndeterminateD,
-    IndeterminateP,
-    IndeterminateDP,
+    NotApplicable = 0,
+    Permit = 1,
+    Deny = 2,
+    IndeterminateD = 3,
+    IndeterminateP = 4,
+    IndeterminateDP = 5,
 }
 
 // One of the two decisions, with the error that could have hidden it.
@@ -40,20 +40,20 @@ const PERMITTING: Side = Side {
     unsure: SixEffect::IndeterminateP,
 };
 
-impl SixEffect {
-    // Whether one of the two is this effect.
-    fn either(self, first: SixEffect, second: SixEffect) -> bool
-        ensures { result ≡ either self first second }
+impl Side {
+    fn has(self, effect: SixEffect) -> bool
+        ensures { result ≡ has self effect }
     {
-        first == self || second == self
+        [self.sure, self.unsure].contains(&effect)
     }
+}
 
+impl SixEffect {
     // Whether one of the two is the unsure effect, and the other of this side.
     fn meets(unsure: SixEffect, other: Side, first: SixEffect, second: SixEffect) -> bool
         ensures { result ≡ meets unsure other first second }
     {
-        (first == unsure && (second == other.sure || second == other.unsure))
-            || (second == unsure && (first == other.sure || first == other.unsure))
+        first == unsure && other.has(second) || second == unsure && other.has(first)
     }
 
     // The first that fits: strong if either is; an error of both sides if either is, or if the strong
@@ -61,38 +61,28 @@ impl SixEffect {
     fn overrides(strong: Side, weak: Side, first: SixEffect, second: SixEffect) -> SixEffect
         ensures { result ≡ overrides strong weak first second }
     {
-        if strong.sure.either(first, second) {
+        if either(strong.sure, first, second) {
             strong.sure
-        } else if SixEffect::IndeterminateDP.either(first, second) {
+        } else if either(SixEffect::IndeterminateDP, first, second) {
             SixEffect::IndeterminateDP
         } else if SixEffect::meets(strong.unsure, weak, first, second) {
             SixEffect::IndeterminateDP
-        } else if strong.unsure.either(first, second) {
+        } else if either(strong.unsure, first, second) {
             strong.unsure
-        } else if weak.sure.either(first, second) {
+        } else if either(weak.sure, first, second) {
             weak.sure
-        } else if weak.unsure.either(first, second) {
+        } else if either(weak.unsure, first, second) {
             weak.unsure
         } else {
             SixEffect::NotApplicable
         }
     }
+}
 
-    // The first unless it is not applicable, then the second.
-    fn first_applicable(first: SixEffect, second: SixEffect) -> SixEffect
-        ensures { result ≡ first_applicable first second }
-    {
-        if first == SixEffect::NotApplicable {
-            second
-        } else {
-            first
-        }
-    }
+impl Decides for SixEffect {
+    ghost decision = { decision_of };
 
-    // What the effect decides.
-    fn decision(self) -> Decision
-        ensures { result ≡ decision_of self }
-    {
+    fn decision(self) -> Decision {
         match self {
             SixEffect::Permit => Decision::Permit,
             SixEffect::Deny => Decision::Deny,
@@ -115,14 +105,7 @@ impl EffectAlgebra for SixEffect {
     }
 
     fn code(self) -> u8 {
-        match self {
-            SixEffect::NotApplicable => 0,
-            SixEffect::Permit => 1,
-            SixEffect::Deny => 2,
-            SixEffect::IndeterminateD => 3,
-            SixEffect::IndeterminateP => 4,
-            SixEffect::IndeterminateDP => 5,
-        }
+        self as u8
     }
 
     fn effect(code: u8) -> SixEffect {
@@ -141,7 +124,7 @@ impl EffectAlgebra for SixEffect {
     }
 
     fn statable(self) -> bool {
-        self == SixEffect::Permit || self == SixEffect::Deny
+        matches!(self, SixEffect::Permit | SixEffect::Deny)
     }
 
     fn failed(self) -> SixEffect {
@@ -160,7 +143,7 @@ impl EffectAlgebra for SixEffect {
         match combiner {
             0 => SixEffect::overrides(DENYING, PERMITTING, first, second),
             1 => SixEffect::overrides(PERMITTING, DENYING, first, second),
-            _ => SixEffect::first_applicable(first, second),
+            _ => first_but(SixEffect::NotApplicable, first, second),
         }
     }
 
@@ -169,10 +152,6 @@ impl EffectAlgebra for SixEffect {
     }
 
     fn breaks(question: u8, first: SixEffect, second: SixEffect) -> bool {
-        if question == 0 {
-            first != second
-        } else {
-            Decision::breaks(question, first.decision(), second.decision())
-        }
+        breaks(question, first, second)
     }
 }

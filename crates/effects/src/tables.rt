@@ -2,7 +2,8 @@
 ghost use Rattle.std.specs.Prelude.{ℕ, ◌<◌, ◌≤◌, [], slice_index_or};
 ghost use Rattle.effects.specs.Cells.{Small};
 
-// The operations of an algebra, as tables of 16 by 16 codes: row a and column b at 16 a + b.
+// The operations of an algebra, as tables of 16 by 16 codes: row a and column b at 16 a + b. All four combiners have a
+// table, so that one is read by its number alone; an ArrayVec would want a test of its length there.
 #[derive(Clone, Copy)]
 pub struct EffectTables {
     pub count: u8,

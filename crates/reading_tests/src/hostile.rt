@@ -9,9 +9,9 @@ use effects::EffectAlgebra;
 // the one question is broken by two equal effects.
 #[derive(Clone, Copy)]
 pub enum Odd {
-    Low,
-    High,
-    Silent,
+    Low = 0,
+    High = 1,
+    Silent = 2,
 }
 
 impl EffectAlgebra for Odd {
@@ -28,11 +28,7 @@ impl EffectAlgebra for Odd {
     }
 
     fn code(self) -> u8 {
-        match self {
-            Odd::Low => 0,
-            Odd::High => 1,
-            Odd::Silent => 2,
-        }
+        self as u8
     }
 
     fn effect(code: u8) -> Odd {

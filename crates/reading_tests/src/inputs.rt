@@ -1,12 +1,10 @@
 // What becomes of the inputs of the tabulating program.
 use std::test::Fail;
-use tabulation::{BadInput, Input, Outcome, tabulate};
+use tabulation::{BadInput, EffectSet, Input, TabulateError, tabulate};
 
+// Why an input is none.
 fn bad(bytes: &[u8]) -> Option<BadInput> {
-    match Input::parse(bytes) {
-        Ok(_) => None,
-        Err(bad) => Some(bad),
-    }
+    Input::parse(bytes).err()
 }
 
 #[test]
@@ -26,34 +24,33 @@ fn unreadable(rt: HostRuntime) {
 
 #[test]
 fn in_request_order(rt: HostRuntime) -> Result<(), Fail> {
-    let input = [3, 4, 0x10, 1, 0x01, 1, 0x11, 0x1F];
-    let order = [0, 4, 2, 6, 1, 5, 3, 7];
-    match tabulate(rt.alloc(), &input)? {
-        Outcome::Tabulated(table) => {
-            assert_eq!(rt; table.rows.len(), 8);
-            let mut n = 0usize;
-            for row in table.rows.iter() {
-                assert_eq!(rt; row.mask, order.get(n).copied().ok_or("a row too many")?);
-                assert_eq!(rt; row.code, (row.mask / 2 % 2) as u8);
-                n = n.wrapping_add(1);
-            }
-            assert_eq!(rt; table.count_of(0), 4);
-            assert_eq!(rt; table.count_of(1), 4);
-            assert_eq!(rt; table.count_of(2), 0);
-            Ok(())
-        }
-        _ => Err(Fail::new("no table")),
+    let table = tabulate(rt.alloc(), &[3, 4, 0x10, 1, 0x01, 1, 0x11, 0x1F])?;
+    assert_eq!(rt; table.effects, EffectSet::Four);
+    assert_eq!(rt; table.rows.len(), 8);
+    for (row, mask) in table.rows.iter().zip([0, 4, 2, 6, 1, 5, 3, 7]) {
+        assert_eq!(rt; row.mask, mask);
+        assert_eq!(rt; row.code, (mask / 2 % 2) as u8);
     }
+    assert_eq!(rt; table.count_of(0), 4);
+    assert_eq!(rt; table.count_of(1), 4);
+    assert_eq!(rt; table.count_of(2), 0);
+    Ok(())
 }
 
 #[test]
 fn refused(rt: HostRuntime) -> Result<(), Fail> {
-    match tabulate(rt.alloc(), &[2, 6, 0x10, 1, 0x13, 3])? {
-        Outcome::Refused(at) => {
-            assert_eq!(rt; at.refusal.number(), 34);
-            assert_eq!(rt; at.place, 2);
-            Ok(())
-        }
-        _ => Err(Fail::new("not refused")),
-    }
+    let Err(TabulateError::Refused(at)) = tabulate(rt.alloc(), &[2, 6, 0x10, 1, 0x13, 3]) else {
+        return Err(Fail::new("not refused"));
+    };
+    assert_eq!(rt; at.refusal.number(), 34);
+    assert_eq!(rt; at.place, 2);
+    Ok(())
+}
+
+#[test]
+fn no_input(rt: HostRuntime) {
+    assert_eq!(rt;
+        tabulate(rt.alloc(), &[17, 4]).err(),
+        Some(TabulateError::Unreadable(BadInput::Facts))
+    );
 }

@@ -10,6 +10,8 @@ mod inputs;
 #[cfg(test)]
 mod minimal;
 #[cfg(test)]
+mod reading;
+#[cfg(test)]
 mod refusals;
 #[cfg(test)]
 mod rules;

@@ -1,5 +1,5 @@
 -- A table as it is filled, and what becomes of an input.
-use Rattle.std.proofs.Common.{◌≡◌, ℕ, ◌+◌, ◌^◌, ◌<◌, ◌≤◌, Bool, true, false, cond, ltb, List, [], ◌∷◌, ◌++◌, map, length, get_or, take, IfOk, Ok, Err, Result, sym, ap, ◌∙◌, subst, arith}
+use Rattle.std.proofs.Common.{◌≡◌, ℕ, ◌+◌, ◌^◌, ◌<◌, ◌≤◌, Bool, true, false, cond, ltb, List, [], ◌∷◌, ◌++◌, map, length, get_or, take, Ok, Err, Result, sym, ap, ◌∙◌, subst, arith}
 use Rattle.std.proofs.lemmas.List.{take_more, map_push, map_more}
 use Rattle.std.proofs.lemmas.Bool.{le-ltb, lt-leb, cond-false}
 use Rattle.effects.specs.Codes.{Codes}
@@ -8,15 +8,16 @@ use Rattle.tape.specs.Requests.{Over}
 use Rattle.tape.specs.Tape.{Row as Commands, read_answer, told, tape_from, no_tests}
 use Rattle.tape.specs.declared.refusal.RefusedAt.{RefusedAt}
 use Rattle.tape.specs.declared.refusal.Refusal.TheVariants.{TapeTooLong}
-use Rattle.tabulation.specs.Inputs.{Asked, asked}
+use Rattle.tabulation.specs.Inputs.{Asked}
 use Rattle.tabulation.specs.Order.{requests, Ordered}
-use Rattle.tabulation.specs.Tables.{masks, answers, codes_of, reads, Filled, Becomes, Outcomes, Says}
-use Rattle.tabulation.specs.declared.input.BadInput.{BadInput}
+use Rattle.tabulation.proofs.Listing.{in_order}
+use Rattle.tabulation.specs.Tables.{masks, answers, codes_of, reads, Filled, Becomes}
 use Rattle.tabulation.specs.declared.input.EffectSet.{EffectSet}
 use Rattle.tabulation.specs.declared.input.Input.{Input}
 use Rattle.tabulation.specs.declared.rows.Row.{Row}
-use Rattle.tabulation.specs.declared.rows.Outcome.{Outcome}
-use Rattle.tabulation.specs.declared.rows.Outcome.TheVariants.{Unreadable, Refused, Tabulated}
+use Rattle.tabulation.specs.declared.rows.Table.{Table}
+use Rattle.tabulation.specs.declared.error.TabulateError.{TabulateError}
+use Rattle.tabulation.specs.declared.error.TabulateError.TheVariants.{Unreadable, Refused, OutOfMemory}
 
 -- one row more
 pub masks_more : (rows rows' : List Row) (row : Row) (ms : List ℕ) (i : ℕ) → i < length ms → rows' ≡ rows ++ row ∷ [] → masks rows ≡ take i ms → row.mask ≡ get_or ms i 0 → masks rows' ≡ take (i + 1) ms
@@ -46,21 +47,15 @@ refused_everywhere K n tape r s e few hr hs p =
 abbrev asks : Input → Asked
 asks i = record { facts = i.facts; effects = i.effects; tape = i.tape.now }
 
-becomes : (i : Input) (ms : List ℕ) → i.facts ≤ 32 → ms ≡ requests i.facts → Ordered i.facts ms → (o : Outcome) → Filled (codes_of i.effects) i ms o → Becomes (asks i) o
-becomes i ms few e ord (Unreadable b) f = f
-becomes i ms few e ord (Refused x) f = λ s h. refused_everywhere (codes_of i.effects) i.facts i.tape.now (get_or ms f.0 0) s x few (ord.over f.0 f.1) h f.2
-becomes i ms few e ord (Tabulated t) f = record {
+pub becomes : (i : Input) (s : EffectSet) (ms : List ℕ) → i.effects ≡ s → i.facts ≤ 32 → ms ≡ requests i.facts → (r : Result Table TabulateError) → Filled (codes_of s) i ms r → Becomes (asks i) r
+becomes i s ms p few e (Ok t) f = record {
   effects = f.0;
   listed = f.1 ∙ e;
-  ordered = subst (Ordered i.facts) (sym f.1) ord;
-  told = f.2 ∙ ap (map (reads (asks i))) e;
+  ordered = subst (Ordered i.facts) (sym (f.1 ∙ e)) (in_order i.facts);
+  told = f.2 ∙ ap (λ (x : EffectSet). map (read_answer (codes_of x) i.facts i.tape.now) ms) (sym p) ∙ ap (map (reads (asks i))) e;
 }
-
-says : (bs : List ℕ) (i : Input) (ms : List ℕ) → asked bs ≡ Ok (asks i) → i.facts ≤ 32 → ms ≡ requests i.facts → Ordered i.facts ms → (o : Outcome) → Filled (codes_of i.effects) i ms o → Says bs o
-says bs i ms a few e ord o f =
-    subst (λ (x : Result Asked BadInput). Outcomes x o) (sym a) (becomes i ms few e ord o f)
-
--- the same of a result that may lack memory
-pub says_made : {E : Type 0} (bs : List ℕ) (i : Input) (s : EffectSet) (ms : List ℕ) → asked bs ≡ Ok (asks i) → i.effects ≡ s → i.facts ≤ 32 → ms ≡ requests i.facts → Ordered i.facts ms → (r : Result Outcome E) → IfOk r (λ o. Filled (codes_of s) i ms o) → IfOk r (λ o. Says bs o)
-says_made bs i s ms a p few e ord (Ok o) f = says bs i ms a few e ord o (subst (λ (x : EffectSet). Filled (codes_of x) i ms o) (sym p) f)
-says_made bs i s ms a p few e ord (Err x) f = f
+becomes i s ms p few e (Err (Unreadable b)) f = f
+becomes i s ms p few e (Err (Refused x)) f = λ r h.
+    ap (λ (t : EffectSet). read_answer (codes_of t) i.facts i.tape.now r) p
+    ∙ refused_everywhere (codes_of s) i.facts i.tape.now (get_or ms f.0 0) r x few (subst (λ (xs : List ℕ). (k : ℕ) → k < length xs → Over i.facts (get_or xs k 0)) (sym e) (in_order i.facts).over f.0 f.1) h f.2
+becomes i s ms p few e (Err OutOfMemory) f = f

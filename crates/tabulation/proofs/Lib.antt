@@ -1,4 +1,2 @@
 pub mod Listing
-pub mod Parsing
-pub mod Tallies
 pub mod Filling

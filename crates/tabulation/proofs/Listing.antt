@@ -1,5 +1,5 @@
 -- The list of requests: how a recursion over the facts lays it out, and that it is in order.
-use Rattle.std.proofs.Common.{◌≡◌, ℕ, zero, suc, ◌+◌, ◌-◌, ◌*◌, ◌/◌, ◌%◌, ◌^◌, ◌<◌, ◌≤◌, true, false, eqb, ◌⊎◌, List, [], ◌∷◌, ◌++◌, map, length, get_or, sym, ap, ◌∙◌, subst, inl, inr, ⊎_elim, map-id, mul_assoc, mul-le-mul_left, mul-add, one-add, arith, length-append, pow_pos}
+use Rattle.std.proofs.Common.{◌≡◌, ℕ, zero, suc, ◌+◌, ◌-◌, ◌*◌, ◌/◌, ◌%◌, ◌^◌, ◌<◌, ◌≤◌, true, false, eqb, ◌⊎◌, List, [], ◌∷◌, ◌++◌, map, length, get_or, sym, ap, ◌∙◌, subst, inl, inr, ⊎_elim, map-id, mul_assoc, mul-add, one-add, arith, length-append}
 use mathlib.Core.Path.{fun_ext}
 use mathlib.Core.List.{map-append, map-map}
 use native.Mathlib.Nat.{pow-succ'}
@@ -35,14 +35,6 @@ laid_all n = ap (λ (g : ℕ → ℕ). map g (requests n)) (fun_ext (λ q. let e
 -- one fact fewer, at twice the weight
 pub weight_more : (p m n : ℕ) → n ≡ suc m → p * 2 * 2 ^ m ≡ p * 2 ^ n
 weight_more p m n e = mul_assoc p 2 (2 ^ m) ∙ ap (λ (x : ℕ). p * x) (sym (pow-succ' 2 m) ∙ ap (λ (k : ℕ). 2 ^ k) (sym e))
-
--- twice the weight is within the limit, where a fact is left
-pub weight_fits : (p m n b : ℕ) → n ≡ suc m → p * 2 ^ n ≤ b → p * 2 ≤ b
-weight_fits p m n b e h =
-    let w = weight_more p m n e in
-    let one : 1 ≤ 2 ^ m = pow_pos m in
-    let up : p * 2 * 1 ≤ p * 2 * 2 ^ m = mul-le-mul_left (p * 2) one in
-    omega arith
 
 -- the bits of 2 r and of 1 + 2 r
 has_half : (r f : ℕ) → has (suc f) r ≡ has f (r / 2)

@@ -1,5 +1,5 @@
 -- How the bytes of an input are taken apart.
-use Rattle.std.specs.Prelude.{ℕ, cond, ◌||◌, List, length, drop, Ok, Err, Result, ◌==◌, nat_lt, slice_index}
+use Rattle.std.specs.Prelude.{◌≡◌, ℕ, cond, ◌||◌, List, codes, length, drop, Ok, Err, Result, ◌==◌, nat_lt, slice_index}
 use Rattle.tabulation.specs.declared.input.EffectSet.{EffectSet}
 use Rattle.tabulation.specs.declared.input.EffectSet.TheVariants.{Four, Six}
 use Rattle.tabulation.specs.declared.input.BadInput.{BadInput}
@@ -14,6 +14,17 @@ pub record Asked : Type 0 where
 -- 4 or 6 as a set of effects
 abbrev pub effect_set : ℕ → EffectSet
 effect_set n = cond (n == 4) Four Six
+
+-- what is printed where an input is none
+abbrev pub complaint : BadInput → List ℕ
+complaint Short = codes "the input is shorter than its two counts"
+complaint Long = codes "the input is longer than 65537 bytes"
+complaint Facts = codes "the first byte is not a fact count of 0 to 16"
+complaint Effects = codes "the second byte is not an effect count of 4 or 6"
+
+-- a count that is 4 or 6 is that of a set of effects
+abbrev pub HasCount : ℕ → Result EffectSet BadInput → Type 0
+HasCount n r = r ≡ cond (n == 4 || n == 6) (Ok (effect_set n)) (Err Effects)
 
 -- a byte for the facts, 0 to 16; a byte for the effects, 4 or 6; then the tape, of at most 65,535 bytes. What is wrong is told in the order short, long, facts, effects
 abbrev pub asked : List ℕ → Result Asked BadInput

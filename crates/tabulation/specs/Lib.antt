@@ -1,4 +1,5 @@
 pub mod Order
 pub mod Inputs
+pub mod Errors
 pub mod Tables
 pub mod Names

@@ -1,5 +1,5 @@
 -- The table of a tape.
-use Rattle.std.specs.Prelude.{◌≡◌, ℕ, ◌+◌, ◌<◌, cond, List, [], ◌∷◌, map, length, Ok, Err, vec_items, Result, ◌==◌, slice_index}
+use Rattle.std.specs.Prelude.{◌≡◌, ℕ, ◌<◌, ⊤, List, map, length, count_by, Ok, Err, vec_items, Result, ◌==◌, slice_index}
 use Rattle.effects.specs.Codes.{Codes, codes}
 use Rattle.effects.specs.Four.{four}
 use Rattle.effects.specs.Six.{six}
@@ -14,8 +14,8 @@ use Rattle.tabulation.specs.declared.input.BadInput.{BadInput}
 use Rattle.tabulation.specs.declared.input.Input.{Input}
 use Rattle.tabulation.specs.declared.rows.Row.{Row}
 use Rattle.tabulation.specs.declared.rows.Table.{Table}
-use Rattle.tabulation.specs.declared.rows.Outcome.{Outcome}
-use Rattle.tabulation.specs.declared.rows.Outcome.TheVariants.{Unreadable, Refused, Tabulated}
+use Rattle.tabulation.specs.declared.error.TabulateError.{TabulateError}
+use Rattle.tabulation.specs.declared.error.TabulateError.TheVariants.{Unreadable, Refused, OutOfMemory}
 
 -- an input as the bytes say it, or why they do not
 abbrev pub Parsed : List ℕ → Result Input BadInput → Type 0
@@ -38,12 +38,13 @@ masks rows = map (λ x. x.mask) rows
 abbrev pub answers : List Row → List (Result ℕ RefusedAt)
 answers rows = map (λ x. Ok x.code) rows
 
--- the table of a tape at these requests, or the refusal at one of them
-abbrev pub Filled : Codes → Input → List ℕ → Outcome → Type 0
-Filled K i ms (Unreadable b) = ⊥
-Filled K i ms (Refused e) = (k : ℕ) × (k < length ms) × (read_answer K i.facts i.tape.now (slice_index ms k) ≡ Err e)
-Filled K i ms (Tabulated t) =
+-- the table of a tape at these requests, or the refusal at one of them; nothing is said of when memory runs out
+abbrev pub Filled : Codes → Input → List ℕ → Result Table TabulateError → Type 0
+Filled K i ms (Ok t) =
     (t.effects ≡ i.effects) × (masks (vec_items t.rows) ≡ ms) × (answers (vec_items t.rows) ≡ map (read_answer K i.facts i.tape.now) ms)
+Filled K i ms (Err (Unreadable b)) = ⊥
+Filled K i ms (Err (Refused e)) = (k : ℕ) × (k < length ms) × (read_answer K i.facts i.tape.now (slice_index ms k) ≡ Err e)
+Filled K i ms (Err OutOfMemory) = ⊤
 
 -- a table of what reading answers: every request over the facts, in the request order, with the answer there
 pub record Tells (q : Asked) (t : Table) : Type 0 where
@@ -52,22 +53,23 @@ pub record Tells (q : Asked) (t : Table) : Type 0 where
   pub ordered : Ordered q.facts (masks (vec_items t.rows))
   pub told : answers (vec_items t.rows) ≡ map (reads q) (requests q.facts)
 
--- what became of an input that asks for q: reading refuses at every request, or the table
-abbrev pub Becomes : Asked → Outcome → Type 0
-Becomes q (Unreadable b) = ⊥
-Becomes q (Refused e) = (r : ℕ) → Over q.facts r → reads q r ≡ Err e
-Becomes q (Tabulated t) = Tells q t
+-- what became of an input that asks for q: the table, or reading refuses at every request; nothing is said of when
+-- memory runs out
+abbrev pub Becomes : Asked → Result Table TabulateError → Type 0
+Becomes q (Ok t) = Tells q t
+Becomes q (Err (Unreadable b)) = ⊥
+Becomes q (Err (Refused e)) = (r : ℕ) → Over q.facts r → reads q r ≡ Err e
+Becomes q (Err OutOfMemory) = ⊤
 
 -- the same, where the bytes may be no input
-abbrev pub Outcomes : Result Asked BadInput → Outcome → Type 0
-Outcomes (Err b) o = o ≡ Unreadable b
-Outcomes (Ok q) o = Becomes q o
+abbrev pub Outcomes : Result Asked BadInput → Result Table TabulateError → Type 0
+Outcomes (Err b) r = r ≡ Err (Unreadable b)
+Outcomes (Ok q) r = Becomes q r
 
 -- what became of the bytes of an input
-abbrev pub Says : List ℕ → Outcome → Type 0
-Says bs o = Outcomes (asked bs) o
+abbrev pub Says : List ℕ → Result Table TabulateError → Type 0
+Says bs r = Outcomes (asked bs) r
 
 -- how many rows have a code
 abbrev pub tally : ℕ → List Row → ℕ
-tally e [] = 0
-tally e (x ∷ xs) = cond (x.code == e) 1 0 + tally e xs
+tally e rows = count_by (λ x. x.code == e) rows

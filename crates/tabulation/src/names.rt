@@ -1,5 +1,5 @@
 // How effects are written.
-ghost use Rattle.std.specs.Prelude.{◌≡◌};
+ghost use Rattle.std.specs.Prelude.{◌≡◌, ℕ, List, codes, if◌then◌else◌, nat_lt};
 ghost use Rattle.tabulation.specs.Names.{count_of, name_of, four_name, six_name};
 
 use crate::input::EffectSet;
@@ -20,36 +20,55 @@ impl EffectSet {
     pub fn name(self, code: u8) -> &'static str
         ensures { result.now ≡ name_of self code }
     {
-        if code >= self.count() {
-            return "?";
-        }
         match self {
-            EffectSet::Four => name_of_four(FourEffect::effect(code)),
-            EffectSet::Six => name_of_six(SixEffect::effect(code)),
+            EffectSet::Four => name_in::<FourEffect>(code),
+            EffectSet::Six => name_in::<SixEffect>(code),
         }
     }
 }
 
-fn name_of_four(effect: FourEffect) -> &'static str
-    ensures { result.now ≡ four_name effect }
+// An algebra whose effects have names. No Display: its impls would have to stand with the effects, and it gives no &'static str.
+trait Named: EffectAlgebra {
+    ghost name: { Self → List ℕ };
+
+    fn name(self) -> &'static str
+        ensures { result.now ≡ name self };
+}
+
+fn name_in<A: Named>(code: u8) -> &'static str
+    ensures { result.now ≡ (if nat_lt code A.EffectAlgebra.effects.count then A.name (A.EffectAlgebra.effects.effect code) else codes "?") }
 {
-    match effect {
-        FourEffect::NotApplicable => "NA",
-        FourEffect::Permit => "Permit",
-        FourEffect::Deny => "Deny",
-        FourEffect::Error => "Error",
+    if code < A::count() {
+        A::effect(code).name()
+    } else {
+        "?"
     }
 }
 
-fn name_of_six(effect: SixEffect) -> &'static str
-    ensures { result.now ≡ six_name effect }
-{
-    match effect {
-        SixEffect::NotApplicable => "NA",
-        SixEffect::Permit => "Permit",
-        SixEffect::Deny => "Deny",
-        SixEffect::IndeterminateD => "Indeterminate{D}",
-        SixEffect::IndeterminateP => "Indeterminate{P}",
-        SixEffect::IndeterminateDP => "Indeterminate{DP}",
+impl Named for FourEffect {
+    ghost name = { four_name };
+
+    fn name(self) -> &'static str {
+        match self {
+            FourEffect::NotApplicable => "NA",
+            FourEffect::Permit => "Permit",
+            FourEffect::Deny => "Deny",
+            FourEffect::Error => "Error",
+        }
+    }
+}
+
+impl Named for SixEffect {
+    ghost name = { six_name };
+
+    fn name(self) -> &'static str {
+        match self {
+            SixEffect::NotApplicable => "NA",
+            SixEffect::Permit => "Permit",
+            SixEffect::Deny => "Deny",
+            SixEffect::IndeterminateD => "Indeterminate{D}",
+            SixEffect::IndeterminateP => "Indeterminate{P}",
+            SixEffect::IndeterminateDP => "Indeterminate{DP}",
+        }
     }
 }

@@ -1,6 +1,5 @@
 // A table of effects.
-use crate::input::{BadInput, EffectSet};
-use tape::RefusedAt;
+use crate::input::EffectSet;
 
 // A request, and the code of the effect there.
 #[derive(Clone, Copy)]
@@ -14,12 +13,4 @@ pub struct Row {
 pub struct Table {
     pub effects: EffectSet,
     pub rows: Vec<Row>,
-}
-
-// What became of an input.
-#[derive(Drop)]
-pub enum Outcome {
-    Unreadable(BadInput),
-    Refused(RefusedAt),
-    Tabulated(Table),
 }
