@@ -16,8 +16,6 @@ use Rattle.tape.specs.declared.stack.Stack.{Stack}
 
 -- what entries E mean in the states S of a reader
 pub record Model (S E : Type 0) : Type 1 where
-  -- a state in which entries can be made
-  pub ready : S → Type 0
   -- in this state the entry has, at each request that the reader speaks for, the value of this function
   pub sense : S → E → (ℕ → ℕ) → Type 0
   -- in this state there is no slot for an entry of this meaning

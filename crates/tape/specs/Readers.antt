@@ -7,7 +7,6 @@ use Rattle.tape.specs.declared.at_request.AtRequest.{AtRequest}
 -- an entry is its value at the request, there is always room, and the request stays
 abbrev pub at_model : Model AtRequest ℕ
 at_model = record {
-  ready = λ s. Unit {0};
   sense = λ s e f. e ≡ f s.request;
   full = λ s f. false;
   later = λ s t. s.request ≡ t.request;

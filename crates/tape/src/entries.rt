@@ -29,22 +29,17 @@ pub trait Entries {
 
     // An entry that is 1 where the fact is present and 0 elsewhere.
     fn fact(&mut self, fact: u8) -> Result<Self::Entry, Refusal>
-        requires { (fact < 32) × (model.ready self.old) }
-        ensures ready { model.ready self.new }
+        requires { fact < 32 }
         ensures kept { model.later self.old self.new }
         ensures gives { Gives model false self.old self.new (λ q. bit (has fact q)) result };
 
     // An entry that is 1 where at least one fact of the mask is present.
     fn any(&mut self, mask: u32) -> Result<Self::Entry, Refusal>
-        requires { model.ready self.old }
-        ensures ready { model.ready self.new }
         ensures kept { model.later self.old self.new }
         ensures gives { Gives model false self.old self.new (λ q. bit (some mask q)) result };
 
     // An entry that is 1 where every fact of the mask is present.
     fn all(&mut self, mask: u32) -> Result<Self::Entry, Refusal>
-        requires { model.ready self.old }
-        ensures ready { model.ready self.new }
         ensures kept { model.later self.old self.new }
         ensures gives { Gives model false self.old self.new (λ q. bit (every mask q)) result };
 
@@ -55,8 +50,7 @@ pub trait Entries {
         first: Self::Entry,
         second: Self::Entry,
     ) -> Result<Self::Entry, Refusal>
-        requires { (Small table.now) × (model.ready self.old) }
-        ensures ready { model.ready self.new }
+        requires { Small table.now }
         ensures kept { model.later self.old self.new }
         ensures gives { (f g : ℕ → ℕ) → model.sense self.old first f → model.sense self.old second g → Gives model false self.old self.new (λ q. cell table.now (f q) (g q)) result };
 }
@@ -69,8 +63,7 @@ fn make<E: Entries>(
     top: E::Entry,
     under: E::Entry,
 ) -> Result<E::Entry, Refusal>
-    requires { (Within command) × (E.Entries.model.ready on.old) }
-    ensures ready { E.Entries.model.ready on.new }
+    requires { Within command }
     ensures kept { E.Entries.model.later on.old on.new }
     ensures gives { Makes E.Entries.model tables.now on.old top under on.new result command }
 {
@@ -97,8 +90,7 @@ pub fn step<E: Entries>(
     facts: u8,
     bytes: &[u8],
 ) -> Result<usize, Refusal>
-    requires { (facts ≤ 32) × (E.Entries.model.ready on.old) }
-    ensures ready { E.Entries.model.ready on.new }
+    requires { facts ≤ 32 }
     ensures kept { E.Entries.model.later on.old on.new }
     ensures some { IfOk result (λ n. (0 < n) × (n ≤ length bytes.now)) }
     ensures stands { (K : Algebra) (row : Row) → Closed K → Tables K tables.now → Holds E.Entries.model K on.old stack.old row → Stepped E.Entries.model K facts row bytes.now on.old on.new stack.new result }

@@ -7,7 +7,6 @@ returns-in_err-command g c =
     let s = c.args.on.now in
     let p = err_from_is_err_and c.from_residual.result c.from_residual.ensures.1 in
     rw (p.1, p.2) (record {
-      ready = c.requires.1;
       kept = g.E.Entries.lasts.same s;
       some = tt;
       stands = λ K row C T h. step_refused g.E.Entries.model K c.args.tables.now T c.args.facts s c.args.stack.now row c.args.bytes.now _ (g.E.Entries.lasts.still s) c.in_err-command.ensures.said h;
@@ -22,7 +21,6 @@ returns-in_err-entry g c =
     let z = c.constant-none.result in
     let p = err_from_is_err_and c.from_residual-in_err-entry.result c.from_residual-in_err-entry.ensures.1 in
     rw (p.1, p.2) (record {
-      ready = c.make.ensures.ready;
       kept = c.make.ensures.kept;
       some = tt;
       stands = λ K row C T h.
@@ -40,7 +38,6 @@ returns g c =
     let st = c.args.stack.now in
     let z = c.constant-none.result in
     record {
-      ready = c.make.ensures.ready;
       kept = c.make.ensures.kept;
       some = (c.in_ok-command.ensures.safe.2, c.in_ok-command.ensures.safe.3);
       stands = λ K row C T h.
