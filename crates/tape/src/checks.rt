@@ -5,10 +5,11 @@ ghost use Rattle.tape.specs.Entries.{of_tables, down, Within, Room, Put};
 ghost use Rattle.tape.specs.declared.command.Kind.TheVariants.{Condition};
 
 use crate::command::{Command, Kind};
+use crate::decode::beyond;
 use crate::outline::Outline;
 use crate::refusal::Refusal;
+use crate::rules::Rules;
 use crate::stack::Stack;
-use effects::EffectTables;
 
 impl Outline {
     // Whether the top entry is of this kind.
@@ -44,10 +45,8 @@ impl Outline {
         match command {
             Command::Not => self.tops(Kind::Condition),
             Command::End => self.tops(Kind::Policy),
-            Command::And => self.tops_two(Kind::Condition, Kind::Condition),
-            Command::Or => self.tops_two(Kind::Condition, Kind::Condition),
-            Command::Scope => self.tops_two(Kind::Condition, Kind::Policy),
-            Command::Fail => self.tops_two(Kind::Condition, Kind::Policy),
+            Command::And | Command::Or => self.tops_two(Kind::Condition, Kind::Condition),
+            Command::Scope | Command::Fail => self.tops_two(Kind::Condition, Kind::Policy),
             Command::Join(_) => self.tops_two(Kind::Policy, Kind::Policy),
             _ => true,
         }
@@ -87,24 +86,47 @@ impl Outline {
         }
         Ok(())
     }
+}
+
+impl Rules<'_> {
+    ghost use Rattle.tape.specs.Entries.{of_tables, Within};
+    ghost use Rattle.tape.specs.Tape.{operand_tests, checked};
+
+    // Refuses an operand that the facts or the algebra lack.
+    fn check_operand(&self, command: Command) -> Result<(), Refusal>
+        ensures said { result ≡ first_of (operand_tests (of_tables self.now.tables.now) self.now.facts command) (tt {0}) }
+        ensures safe { OnOk result (Within command) }
+    {
+        match command {
+            Command::Has(fact) if fact >= self.facts => Err(Refusal::UndeclaredFact),
+            Command::Any(mask) | Command::All(mask) if beyond(self.facts, mask) => Err(
+                Refusal::UndeclaredFact,
+            ),
+            Command::State(code)
+                if code >= self.tables.count || !self.tables.statable[code as usize] => Err(
+                Refusal::NotStatable,
+            ),
+            Command::Join(combiner) if combiner >= self.tables.combiner_count => Err(
+                Refusal::NoCombiner,
+            ),
+            _ => Ok(()),
+        }
+    }
 
     // The command at the start of the bytes, with the bytes that it takes.
-    pub(crate) fn next(
-        &self,
-        tables: &EffectTables,
-        facts: u8,
-        bytes: &[u8],
-    ) -> Result<(Command, usize), Refusal>
-        requires { facts ≤ 32 }
-        ensures said { result ≡ checked (of_tables tables.now) facts self.now.ended (down Condition self.now.kinds self.now.depth) bytes.now }
-        ensures safe { IfOk result (λ d. Within d.0 × Room d.0 self.now.depth × (0 < d.1) × (d.1 ≤ length bytes.now)) }
+    pub(crate) fn next(&self, outline: &Outline, bytes: &[u8]) -> Result<(Command, usize), Refusal>
+        ensures said { result ≡ checked (of_tables self.now.tables.now) self.now.facts outline.now.ended (down Condition outline.now.kinds outline.now.depth) bytes.now }
+        ensures within { IfOk result (λ d. Within d.0) }
+        ensures room { IfOk result (λ d. Room d.0 outline.now.depth) }
+        ensures some { IfOk result (λ d. 0 < d.1) }
+        ensures there { IfOk result (λ d. d.1 ≤ length bytes.now) }
     {
-        if self.ended {
+        if outline.ended {
             return Err(Refusal::AfterEnd);
         }
         let (command, count) = Command::decode(bytes)?;
-        command.check_operand(tables, facts)?;
-        self.check_stack(command)?;
+        self.check_operand(command)?;
+        outline.check_stack(command)?;
         Ok((command, count))
     }
 }

@@ -9,6 +9,7 @@ ghost use Rattle.tape.specs.Entries.{Model, Lasts, Gives, Makes, Within, Holds, 
 
 use crate::command::Command;
 use crate::refusal::Refusal;
+use crate::rules::Rules;
 use crate::stack::Stack;
 use effects::EffectTables;
 
@@ -82,24 +83,27 @@ fn make<E: Entries>(
     }
 }
 
-// Reads the command at the start of the bytes: how many bytes it takes, or why it is refused.
-pub fn step<E: Entries>(
-    on: &mut E,
-    stack: &mut Stack<E::Entry>,
-    tables: &EffectTables,
-    facts: u8,
-    bytes: &[u8],
-) -> Result<usize, Refusal>
-    requires { facts ≤ 32 }
-    ensures kept { E.Entries.model.later on.old on.new }
-    ensures some { IfOk result (λ n. (0 < n) × (n ≤ length bytes.now)) }
-    ensures stands { (K : Algebra) (row : Row) → Closed K → Tables K tables.now → Holds E.Entries.model K on.old stack.old row → Stepped E.Entries.model K facts row bytes.now on.old on.new stack.new result }
-{
-    let (command, count) = stack.outline.next(tables, facts, bytes)?;
-    let none = on.constant(0);
-    let top = stack.under(0, none);
-    let second = stack.under(1, none);
-    let entry = make(on, tables, command, top, second)?;
-    stack.put(command, entry);
-    Ok(count)
+impl Rules<'_> {
+    ghost use Rattle.tape.specs.Entries.{Holds, Stepped};
+
+    // Reads the command at the start of the bytes: how many bytes it takes, or why it is refused.
+    pub fn step<E: Entries>(
+        &self,
+        on: &mut E,
+        stack: &mut Stack<E::Entry>,
+        bytes: &[u8],
+    ) -> Result<usize, Refusal>
+        ensures kept { E.Entries.model.later on.old on.new }
+        ensures some { IfOk result (λ n. 0 < n) }
+        ensures there { IfOk result (λ n. n ≤ length bytes.now) }
+        ensures stands { (K : Algebra) (row : Row) → Closed K → Tables K self.now.tables.now → Holds E.Entries.model K on.old stack.old row → Stepped E.Entries.model K self.now.facts row bytes.now on.old on.new stack.new result }
+    {
+        let (command, count) = self.next(&stack.outline, bytes)?;
+        let none = on.constant(0);
+        let top = stack.under(0, none);
+        let second = stack.under(1, none);
+        let entry = make(on, self.tables, command, top, second)?;
+        stack.put(command, entry);
+        Ok(count)
+    }
 }

@@ -12,14 +12,16 @@ mod numbers;
 mod outline;
 mod reader;
 mod refusal;
+mod rules;
 mod stack;
 
 pub use at_request::AtRequest;
 pub use command::{Command, Kind};
 pub use decode::beyond;
-pub use entries::{Entries, step};
+pub use entries::Entries;
 pub use holdings::holdings_stand;
 pub use outline::Outline;
 pub use reader::{read, read_with};
 pub use refusal::{Layer, Refusal, RefusedAt};
+pub use rules::Rules;
 pub use stack::Stack;

@@ -6,10 +6,11 @@ ghost use Rattle.tape.specs.Tape.{read_answer};
 ghost use Rattle.tape.specs.Readers.{at_model, at_lasts};
 
 use crate::at_request::AtRequest;
+use crate::decode::beyond;
 use crate::entries::Entries;
 use crate::refusal::{Refusal, RefusedAt};
+use crate::rules::Rules;
 use crate::stack::Stack;
-use crate::{decode, entries};
 use effects::{EffectAlgebra, EffectTables};
 
 impl Entries for AtRequest {
@@ -67,7 +68,7 @@ pub fn read_with(
             place: 0,
         });
     }
-    if decode::beyond(facts, request) {
+    if beyond(facts, request) {
         return Err(RefusedAt {
             refusal: Refusal::UndeclaredInRequest,
             place: 0,
@@ -79,11 +80,12 @@ pub fn read_with(
             place: 0,
         });
     }
+    let rules = Rules { tables, facts };
     let mut on = AtRequest { request };
     let mut stack = Stack::empty(0u8);
     let mut place = 0;
     while place < tape.len() {
-        match entries::step(&mut on, &mut stack, tables, facts, &tape[place..]) {
+        match rules.step(&mut on, &mut stack, &tape[place..]) {
             Ok(count) => place += count,
             Err(refusal) => return Err(RefusedAt { refusal, place }),
         }

@@ -25,14 +25,14 @@ loop-place-preserved c =
     let tape = c.args.tape.now in
     let e = c.in-Ok.ensures in
     let l = length-drop p tape in
-    let le : c.in-Ok.count ≤ length (drop p tape) = count_rest tape p c.in-Ok.count e.some.1 in
+    let le : c.in-Ok.count ≤ length (drop p tape) = count_rest tape p c.in-Ok.count e.there in
     let lt : p < length tape = c.loop-place-test.true in
     let within : p + c.in-Ok.count ≤ length tape = omega arith in (
       within,
       c.loop-place.invariant.1 ∙ e.kept,
       λ K C T.
           let rd = c.loop-place.invariant.2 K C T in
-          reading_more at_model (λ _ _. Unit {0}) no_tests K c.args.facts tape c.loop-place.on c.step.new.on c.loop-place.stack c.step.new.stack p c.in-Ok.count rd lt e.some.0 le (λ d u. sym (unlimited K c.args.facts rd.row (drop p tape)) ∙ u) (λ d e h m. tt) (stepped_rest at_model K c.args.facts rd.row tape p c.loop-place.on c.step.new.on c.step.new.stack (Ok c.in-Ok.count) (e.stands K rd.row C T rd.holds)),
+          reading_more at_model (λ _ _. Unit {0}) no_tests K c.args.facts tape c.loop-place.on c.step.new.on c.loop-place.stack c.step.new.stack p c.in-Ok.count rd lt e.some le (λ d u. sym (unlimited K c.args.facts rd.row (drop p tape)) ∙ u) (λ d e h m. tt) (stepped_rest at_model K c.args.facts rd.row tape p c.loop-place.on c.step.new.on c.step.new.stack (Ok c.in-Ok.count) (e.stands K rd.row C T rd.holds)),
     )
 
 pub returns-in-Err : goal.returns-in-Err

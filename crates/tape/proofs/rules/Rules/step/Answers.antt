@@ -1,6 +1,6 @@
 use Rattle.std.proofs.lemmas.Result.{err_from_is_err_and}
 use Rattle.tape.proofs.Stepping.{held_at, step_refused, step_ok, step_full}
-use Rattle.tape.proofs.entries.step.Goals as goal
+use Rattle.tape.proofs.rules.Rules.step.Goals as goal
 
 pub returns-in_err-command : goal.returns-in_err-command
 returns-in_err-command g c =
@@ -9,7 +9,8 @@ returns-in_err-command g c =
     rw (p.1, p.2) (record {
       kept = g.E.Entries.lasts.same s;
       some = tt;
-      stands = λ K row C T h. step_refused g.E.Entries.model K c.args.tables.now T c.args.facts s c.args.stack.now row c.args.bytes.now _ (g.E.Entries.lasts.still s) c.in_err-command.ensures.said h;
+      there = tt;
+      stands = λ K row C T h. step_refused g.E.Entries.model K c.args.self.now.tables.now T c.args.self.now.facts s c.args.stack.now row c.args.bytes.now _ (g.E.Entries.lasts.still s) c.in_err-command.ensures.said h;
     })
 
 pub returns-in_err-entry : goal.returns-in_err-entry
@@ -23,10 +24,11 @@ returns-in_err-entry g c =
     rw (p.1, p.2) (record {
       kept = c.make.ensures.kept;
       some = tt;
+      there = tt;
       stands = λ K row C T h.
           let a = held_at M K s st row z c.under-top.result 0 c.constant-none.ensures h c.under-top.ensures in
           let b = held_at M K s st row z c.under-second.result 1 c.constant-none.ensures h c.under-second.ensures in
-          step_full M K c.args.tables.now T c.args.facts s t st row c.args.bytes.now c.in_ok-command.command c.in_ok-command.count _
+          step_full M K c.args.self.now.tables.now T c.args.self.now.facts s t st row c.args.bytes.now c.in_ok-command.command c.in_ok-command.count _
           (λ e f m. g.E.Entries.lasts.keeps s t e f c.make.ensures.kept m) c.in_ok-command.ensures.said h (c.in_err-entry.ensures.gives _ _ a b);
     })
 
@@ -39,10 +41,11 @@ returns g c =
     let z = c.constant-none.result in
     record {
       kept = c.make.ensures.kept;
-      some = (c.in_ok-command.ensures.safe.2, c.in_ok-command.ensures.safe.3);
+      some = c.in_ok-command.ensures.some;
+      there = c.in_ok-command.ensures.there;
       stands = λ K row C T h.
           let a = held_at M K s st row z c.under-top.result 0 c.constant-none.ensures h c.under-top.ensures in
           let b = held_at M K s st row z c.under-second.result 1 c.constant-none.ensures h c.under-second.ensures in
-          step_ok M K c.args.tables.now C T c.args.facts s t st c.put.new.self row c.args.bytes.now c.in_ok-command.command c.in_ok-command.count c.in_ok-entry.entry
+          step_ok M K c.args.self.now.tables.now C T c.args.self.now.facts s t st c.put.new.self row c.args.bytes.now c.in_ok-command.command c.in_ok-command.count c.in_ok-entry.entry
           (λ e f m. g.E.Entries.lasts.keeps s t e f c.make.ensures.kept m) c.in_ok-command.ensures.said h (c.in_ok-entry.ensures.gives _ _ a b) c.put.ensures;
     }
