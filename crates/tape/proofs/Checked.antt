@@ -57,6 +57,11 @@ unfolding checked
 decoded_here K n over ks bs d o p =
     ap (λ (b : Bool). checked K n b ks bs) o ∙ ap (λ (v : Result (Command × ℕ) Refusal). bind v (tests K n ks)) p
 
+pub undecoded : (K : Codes) (n : ℕ) (over : Bool) (ks : List Kind) (bs : List ℕ) (e : Refusal) → over ≡ false → decoded bs ≡ Err e → checked K n over ks bs ≡ Err e
+unfolding checked
+undecoded K n over ks bs e o p =
+    ap (λ (b : Bool). checked K n b ks bs) o ∙ ap (λ (v : Result (Command × ℕ) Refusal). bind v (tests K n ks)) p
+
 pub operand_refused : (K : Codes) (n : ℕ) (over : Bool) (ks : List Kind) (bs : List ℕ) (d : Command × ℕ) (e : Refusal) → over ≡ false → decoded bs ≡ Ok d → first_of (operand_tests K n d.0) (tt {0}) ≡ Err e → checked K n over ks bs ≡ Err e
 operand_refused K n over ks bs d e o p q =
     decoded_here K n over ks bs d o p ∙ ap (λ (v : Result (Unit {0}) Refusal). then v (then (Found ks d.0) (Ok d))) q

@@ -1,4 +1,4 @@
-pub mod Down
 pub mod Checked
 pub mod Stepping
 pub mod Reading
+pub mod Tops

@@ -1,16 +1,17 @@
 -- Reading a whole tape, command by command.
-use Rattle.std.proofs.Common.{◌≡◌, ℕ, zero, suc, ◌+◌, ◌-◌, ◌^◌, ◌<◌, ◌≤◌, Bool, true, false, cond, not, ◌&&◌, ltb, leb, List, [], ◌∷◌, ◌++◌, length, take, drop, Ok, Err, Result, sym, refl, ap, ◌∙◌, subst, arith, length-drop, drop_of_length-le, take_all, drop-drop}
+use Rattle.std.proofs.Common.{◌≡◌, ℕ, zero, suc, ◌+◌, ◌-◌, ◌^◌, ◌<◌, ◌≤◌, Bool, true, false, cond, not, ◌&&◌, ltb, leb, List, [], ◌∷◌, ◌++◌, length, take, drop, map, reverse, Ok, Err, Result, sym, refl, ap, ◌∙◌, subst, arith, length-drop, drop_of_length-le, take_all, drop-drop}
 use mathlib.Core.Path.{fun_ext}
 use Rattle.std.proofs.lemmas.Bool.{cond-true, cond-false}
 use Rattle.effects.specs.Codes.{Codes}
 use Rattle.tape.specs.Refusals.{at_place}
 use Rattle.tape.specs.Tape.{Row, values, kinds, is_end, ended, Tests, first_of, bind, checked, next_command, after, bytes_taken, tape_from, told, no_tests, read_answer}
-use Rattle.tape.specs.Entries.{Model, down, Meant, Holds, own_tests, own_command, Moved, Stepped}
+use Rattle.tape.specs.Entries.{Model, entries_on, kinds_on, Meant, Holds, own_tests, own_command, Moved, Stepped}
 use Rattle.tape.specs.declared.command.Command.{Command}
 use Rattle.tape.specs.declared.command.Kind.TheVariants.{Condition}
 use Rattle.tape.specs.declared.refusal.Refusal.{Refusal}
 use Rattle.tape.specs.declared.refusal.RefusedAt.{RefusedAt}
 use Rattle.tape.specs.declared.refusal.Refusal.TheVariants.{NoSlot, NoEnd, TooManyFacts, UndeclaredInRequest, TapeTooLong}
+use Rattle.tape.specs.declared.stack.Placed.{Placed}
 use Rattle.tape.specs.declared.stack.Stack.{Stack}
 
 -- what a row's reader has read so far, and what is left of the tape
@@ -22,16 +23,16 @@ pub record Reading {S E : Type 0} (M : Model S E) (Also : Row → S → Type 0) 
   pub rest : tape_from (length tape) K n more [] 0 tape ≡ tape_from fuel K n more row place (drop place tape)
   pub enough : length (drop place tape) ≤ fuel
 
-pub holds_empty : {S E : Type 0} (M : Model S E) (K : Codes) (s : S) (st : Stack E) → st.outline.depth ≡ 0 → st.outline.ended ≡ false → Holds M K s st []
+pub holds_empty : {S E : Type 0} (M : Model S E) (K : Codes) (s : S) (st : Stack E) → st.entries.items ≡ [] → st.ended ≡ false → Holds M K s st []
 unfolding kinds values ended
-holds_empty M K s st d e = record {
-  outline = ap (λ (n : ℕ). down Condition st.outline.kinds n) d;
+holds_empty {E = E} M K s st d e = record {
+  outline = ap (λ (es : List (Placed E)). map (λ p. p.kind) (reverse es)) d;
   over = e;
-  meant = λ z. subst (λ (n : ℕ). Meant M s (down z st.entries n) (values K [])) (sym d) (λ q. refl);
+  meant = subst (λ (es : List (Placed E)). Meant M s (map (λ p. p.entry) (reverse es)) (values K [])) (sym d) (λ q. refl);
   sound = λ q. tt;
 }
 
-pub reading_start : {S E : Type 0} (M : Model S E) (Also : Row → S → Type 0) (more : Row → Command → Tests) (K : Codes) (n : ℕ) (tape : List ℕ) (s : S) (st : Stack E) → st.outline.depth ≡ 0 → st.outline.ended ≡ false → Also [] s → Reading M Also more K n tape s st 0
+pub reading_start : {S E : Type 0} (M : Model S E) (Also : Row → S → Type 0) (more : Row → Command → Tests) (K : Codes) (n : ℕ) (tape : List ℕ) (s : S) (st : Stack E) → st.entries.items ≡ [] → st.ended ≡ false → Also [] s → Reading M Also more K n tape s st 0
 reading_start M Also more K n tape s st d e also = record { row = []; also = also; fuel = length tape; holds = holds_empty M K s st d e; rest = refl; enough = omega arith }
 
 -- one command of a tape
@@ -93,7 +94,7 @@ tape_end : (fuel : ℕ) (K : Codes) (n : ℕ) (more : Row → Command → Tests)
 unfolding tape_from
 tape_end fuel K n more row place = refl
 
-pub reading_end : {S E : Type 0} (M : Model S E) (Also : Row → S → Type 0) (more : Row → Command → Tests) (K : Codes) (n : ℕ) (tape : List ℕ) (s : S) (st : Stack E) (place : ℕ) (rd : Reading M Also more K n tape s st place) → length tape ≤ place → tape_from (length tape) K n more [] 0 tape ≡ cond st.outline.ended (Ok rd.row) (Err (at_place NoEnd place))
+pub reading_end : {S E : Type 0} (M : Model S E) (Also : Row → S → Type 0) (more : Row → Command → Tests) (K : Codes) (n : ℕ) (tape : List ℕ) (s : S) (st : Stack E) (place : ℕ) (rd : Reading M Also more K n tape s st place) → length tape ≤ place → tape_from (length tape) K n more [] 0 tape ≡ cond st.ended (Ok rd.row) (Err (at_place NoEnd place))
 reading_end M Also more K n tape s st place rd le =
     rd.rest ∙ ap (λ (bs : List ℕ). tape_from rd.fuel K n more rd.row place bs) (drop_of_length-le tape le)
     ∙ tape_end rd.fuel K n more rd.row place

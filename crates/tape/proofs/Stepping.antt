@@ -6,7 +6,7 @@ use Rattle.effects.specs.Codes.{Codes, Closed}
 use Rattle.tape.specs.Requests.{has, any, all}
 use Rattle.tape.specs.Tape.{Row, same_kind, takes, leaves, Reader, stack, of_kinds, means, at_request, values, result, kinds, is_end, ended, decoded, fits, undeclared, unstatable, no_combiner, Tests, first_of, operand_tests, stack_tests, bind, then, checked, next_command, after, bytes_taken}
 use Rattle.effects.specs.Tables.{Tables, bit}
-use Rattle.tape.specs.Entries.{Model, Gives, of_tables, tabled, down, Meant, Put, Fit, Sound, Holds, own_tests, own_command, Moved, Stepped}
+use Rattle.tape.specs.Entries.{Model, Gives, of_tables, tabled, kinds_on, entries_on, Meant, Put, Fit, Sound, Holds, own_tests, own_command, Moved, Stepped}
 use Rattle.tape.specs.declared.command.Command.{Command}
 use Rattle.tape.specs.declared.command.Command.TheVariants.{Has, Any, All, Not, And, Or, State, Scope, Fail, Join, End}
 use Rattle.tape.specs.declared.command.Kind.{Kind}
@@ -241,9 +241,9 @@ meant_at M s z b (e ∷ es) F zero m = m.0
 meant_at M s z b (e ∷ es) F (suc i) m = subst (M.sense s (get_or es i z)) (fun_ext (λ q. get_or_one i (F q))) (meant_at M s z b es (λ q. drop 1 (F q)) i m.1)
 
 -- an entry that a stack holds, by its place under the top
-pub held_at : {S E : Type 0} (M : Model S E) (K : Codes) (s : S) (st : Stack E) (row : Row) (z e : E) (i : ℕ) → M.sense s z (λ _. 0) → Holds M K s st row → e ≡ get_or (down z st.entries st.outline.depth) i z → M.sense s e (λ q. get_or (values K row q) i 0)
+pub held_at : {S E : Type 0} (M : Model S E) (K : Codes) (s : S) (st : Stack E) (row : Row) (z e : E) (i : ℕ) → M.sense s z (λ _. 0) → Holds M K s st row → e ≡ get_or (entries_on st) i z → M.sense s e (λ q. get_or (values K row q) i 0)
 held_at {E = E} M K s st row z e i b h p =
-    subst (λ (x : E). M.sense s x (λ q. get_or (values K row q) i 0)) (sym p) (meant_at M s z b (down z st.entries st.outline.depth) (values K row) i (h.meant z))
+    subst (λ (x : E). M.sense s x (λ q. get_or (values K row q) i 0)) (sym p) (meant_at M s z b (entries_on st) (values K row) i h.meant)
 
 -- what the tables make of a command after a row
 abbrev by_tables : Codes → EffectTables → Row → Command → ℕ → ℕ
@@ -268,12 +268,12 @@ next_err K n more row bs e p = ap (λ (v : Result (Command × ℕ) Refusal). bin
 
 -- the check at the stack is the check at the row
 abbrev At : {E : Type 0} → EffectTables → ℕ → Stack E → List ℕ → Result (Command × ℕ) Refusal
-At R n st bs = checked (of_tables R) n st.outline.ended (down Condition st.outline.kinds st.outline.depth) bs
+At R n st bs = checked (of_tables R) n st.ended (kinds_on st) bs
 
 at_row : {S E : Type 0} (M : Model S E) (K : Codes) (R : EffectTables) → Tables K R → (n : ℕ) (s : S) (st : Stack E) (row : Row) (bs : List ℕ) → Holds M K s st row → At R n st bs ≡ checked K n (ended row) (kinds row) bs
 at_row M K R T n s st row bs h =
     checked_same K R T n _ _ bs
-    ∙ ap (λ (b : Bool). checked K n b (down Condition st.outline.kinds st.outline.depth) bs) h.over
+    ∙ ap (λ (b : Bool). checked K n b (kinds_on st) bs) h.over
     ∙ ap (λ (ks : List Kind). checked K n (ended row) ks bs) h.outline
 
 -- a step, from what the next command is
@@ -294,16 +294,16 @@ given : {S E : Type 0} (M : Model S E) (K : Codes) (R : EffectTables) → Tables
 given M K R T s t row x r p so g = subst (λ (f : ℕ → ℕ). Gives M (is_end x) s t f r) (made_same K R T row x p so) g
 
 holds_later : {S E : Type 0} (M : Model S E) (K : Codes) (s t : S) (st : Stack E) (row : Row) → Kept M s t → Holds M K s st row → Holds M K t st row
-holds_later M K s t st row k h = record { outline = h.outline; over = h.over; meant = λ z. meant_later M s t k (down z st.entries st.outline.depth) (values K row) (h.meant z); sound = h.sound }
+holds_later M K s t st row k h = record { outline = h.outline; over = h.over; meant = meant_later M s t k (entries_on st) (values K row) h.meant; sound = h.sound }
 
 holds_put : {S E : Type 0} (M : Model S E) (K : Codes) → Closed K → (s t : S) (st su : Stack E) (row : Row) (x : Command) (e : E) → Kept M s t → Passed K (kinds row) x → M.sense t e (λ q. result K (row ++ x ∷ []) q) → Put x e st su → Holds M K s st row → Holds M K t su (row ++ x ∷ [])
 holds_put {E = E} M K C s t st su row x e k p m u h = record {
   outline = u.kinds ∙ ap (λ (ks : List Kind). leaves x ∷ drop (length (takes x)) ks) h.outline ∙ sym (kinds_more row x);
   over = u.ended ∙ ap (λ (b : Bool). is_end x || b) h.over ∙ sym (ended_more row x);
-  meant = λ z. subst (λ (es : List E). Meant M t es (values K (row ++ x ∷ []))) (sym (u.entries z)) (
+  meant = subst (λ (es : List E). Meant M t es (values K (row ++ x ∷ []))) (sym u.entries) (
     m,
-    subst (Meant M t (drop (length (takes x)) (down z st.entries st.outline.depth))) (tail_more K row x)
-        (meant_drop M t (length (takes x)) (down z st.entries st.outline.depth) (values K row) (meant_later M s t k (down z st.entries st.outline.depth) (values K row) (h.meant z))),
+    subst (Meant M t (drop (length (takes x)) (entries_on st))) (tail_more K row x)
+        (meant_drop M t (length (takes x)) (entries_on st) (values K row) (meant_later M s t k (entries_on st) (values K row) h.meant)),
   );
   sound = λ q. sound_more K C q row x (h.sound q) p.fitted p.stated;
 }

@@ -1,6 +1,6 @@
 // How bytes spell commands, and what a command is by itself.
 ghost use Rattle.std.specs.Prelude.{◌≡◌, ℕ, ◌^◌, ◌<◌, ◌≤◌, length, IfOk, nat_le};
-ghost use Rattle.tape.specs.Tape.{decoded, takes, leaves as leaves_kind, is_end, same_kind};
+ghost use Rattle.tape.specs.Tape.{decoded, takes, leaves as leaves_kind, is_end};
 
 use crate::command::{Command, Kind};
 use crate::refusal::Refusal;
@@ -10,14 +10,6 @@ pub fn beyond(facts: u8, mask: u32) -> bool
     ensures { result ≡ nat_le (2 ^ facts) mask }
 {
     facts < 32 && mask >= 1 << facts
-}
-
-impl Kind {
-    pub(crate) fn same(self, other: Kind) -> bool
-        ensures { result ≡ same_kind self other }
-    {
-        self == other
-    }
 }
 
 impl Command {

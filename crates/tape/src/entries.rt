@@ -98,11 +98,11 @@ impl Rules<'_> {
         ensures there { IfOk result (λ n. n ≤ length bytes.now) }
         ensures stands { (K : Algebra) (row : Row) → Closed K → Tables K self.now.tables.now → Holds E.Entries.model K on.old stack.old row → Stepped E.Entries.model K self.now.facts row bytes.now on.old on.new stack.new result }
     {
-        let (command, count) = self.next(&stack.outline, bytes)?;
+        let (command, count) = self.next(stack, bytes)?;
         let none = on.constant(0);
-        let top = stack.under(0, none);
-        let second = stack.under(1, none);
-        let entry = make(on, self.tables, command, top, second)?;
+        let top = stack.top(none);
+        let under = stack.under(none);
+        let entry = make(on, self.tables, command, top, under)?;
         stack.put(command, entry);
         Ok(count)
     }

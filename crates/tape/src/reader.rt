@@ -90,7 +90,7 @@ pub fn read_with(
             Err(refusal) => return Err(RefusedAt { refusal, place }),
         }
     }
-    if !stack.outline.ended {
+    if !stack.ended {
         return Err(RefusedAt {
             refusal: Refusal::NoEnd,
             place,

@@ -2,7 +2,7 @@ use Rattle.std.proofs.Common.{◌≡◌, ℕ, ◌+◌, ◌<◌, ◌≤◌, lengt
 use Rattle.std.proofs.lemmas.Bool.{lt-ltb, le-ltb, cond-true, cond-false}
 use Rattle.tape.specs.Tape.{no_tests, values, result}
 use Rattle.tape.specs.Readers.{at_model}
-use Rattle.tape.specs.Entries.{down}
+use Rattle.tape.specs.Entries.{entries_on}
 use Rattle.tape.proofs.Stepping.{meant_at}
 use Rattle.tape.proofs.Reading.{many_facts, no_fact, long_tape, past_tests, reading_start, reading_more, reading_refused, reading_end, unlimited, stepped_rest, count_rest}
 use Rattle.tape.proofs.reader.read_with.Goals as goal
@@ -56,7 +56,7 @@ returns c = λ K C T.
     let on = c.loop-place.on in
     let st = c.loop-place.stack in
     let rd = c.loop-place.invariant.2 K C T in
-    let m = meant_at at_model on 0 refl (down 0 st.entries st.outline.depth) (values K rd.row) 0 (rd.holds.meant 0) in
+    let m = meant_at at_model on 0 refl (entries_on st) (values K rd.row) 0 rd.holds.meant in
     let v : c.top.result ≡ result K rd.row c.args.request = c.top.ensures ∙ m ∙ ap (λ (q : ℕ). result K rd.row q) (sym c.loop-place.invariant.1) in
     ap (λ (n : ℕ). Ok n) v
     ∙ sym (past_tests K c.args.facts tape c.args.request _ (le-ltb 32 c.args.facts c.if-facts-gt32.false) (sym c.if-beyond.ensures) (le-ltb 65535 (length tape) c.if-tape-gt65535.false)

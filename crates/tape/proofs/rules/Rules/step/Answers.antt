@@ -26,8 +26,8 @@ returns-in_err-entry g c =
       some = tt;
       there = tt;
       stands = λ K row C T h.
-          let a = held_at M K s st row z c.under-top.result 0 c.constant-none.ensures h c.under-top.ensures in
-          let b = held_at M K s st row z c.under-second.result 1 c.constant-none.ensures h c.under-second.ensures in
+          let a = held_at M K s st row z c.top-top.result 0 c.constant-none.ensures h c.top-top.ensures in
+          let b = held_at M K s st row z c.under-under.result 1 c.constant-none.ensures h c.under-under.ensures in
           step_full M K c.args.self.now.tables.now T c.args.self.now.facts s t st row c.args.bytes.now c.in_ok-command.command c.in_ok-command.count _
           (λ e f m. g.E.Entries.lasts.keeps s t e f c.make.ensures.kept m) c.in_ok-command.ensures.said h (c.in_err-entry.ensures.gives _ _ a b);
     })
@@ -44,8 +44,8 @@ returns g c =
       some = c.in_ok-command.ensures.some;
       there = c.in_ok-command.ensures.there;
       stands = λ K row C T h.
-          let a = held_at M K s st row z c.under-top.result 0 c.constant-none.ensures h c.under-top.ensures in
-          let b = held_at M K s st row z c.under-second.result 1 c.constant-none.ensures h c.under-second.ensures in
+          let a = held_at M K s st row z c.top-top.result 0 c.constant-none.ensures h c.top-top.ensures in
+          let b = held_at M K s st row z c.under-under.result 1 c.constant-none.ensures h c.under-under.ensures in
           step_ok M K c.args.self.now.tables.now C T c.args.self.now.facts s t st c.put.new.self row c.args.bytes.now c.in_ok-command.command c.in_ok-command.count c.in_ok-entry.entry
           (λ e f m. g.E.Entries.lasts.keeps s t e f c.make.ensures.kept m) c.in_ok-command.ensures.said h (c.in_ok-entry.ensures.gives _ _ a b) c.put.ensures;
     }
