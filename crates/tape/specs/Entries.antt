@@ -1,9 +1,10 @@
 -- What an entry is for the reader that runs the rules.
-use Rattle.std.specs.Prelude.{◌≡◌, ℕ, zero, suc, ◌+◌, ◌<◌, ◌≤◌, Bool, true, false, not, ◌&&◌, ◌||◌, List, [], ◌∷◌, ◌++◌, length, drop, map, reverse, Ok, Err, Result, slice_index, slice_index_or}
+use Rattle.std.specs.Prelude.{◌≡◌, ℕ, zero, suc, ◌+◌, ◌<◌, ◌≤◌, Bool, true, false, cond, not, ◌&&◌, ◌||◌, List, [], ◌∷◌, ◌++◌, length, drop, map, reverse, Ok, Err, Result, slice_index, slice_index_or}
 use Rattle.effects.specs.Cells.{cell}
 use Rattle.effects.specs.Codes.{Codes}
 use Rattle.effects.specs.Tables.{bit}
 use Rattle.effects.specs.declared.tables.EffectTables.{EffectTables}
+use Rattle.tape.specs.Refusals.{at_place}
 use Rattle.tape.specs.Requests.{has, any, all}
 use Rattle.tape.specs.Tape.{Row, kinds, values, ended, takes, leaves, is_end, Tests, result, next_command, after, bytes_taken}
 use Rattle.tape.specs.declared.command.Command.{Command}
@@ -11,7 +12,8 @@ use Rattle.tape.specs.declared.command.Command.TheVariants.{Has, Any, All, Not, 
 use Rattle.tape.specs.declared.command.Kind.{Kind}
 use Rattle.tape.specs.declared.command.Kind.TheVariants.{Condition, Policy}
 use Rattle.tape.specs.declared.refusal.Refusal.{Refusal}
-use Rattle.tape.specs.declared.refusal.Refusal.TheVariants.{NoSlot}
+use Rattle.tape.specs.declared.refusal.Refusal.TheVariants.{NoSlot, NoEnd}
+use Rattle.tape.specs.declared.refusal.RefusedAt.{RefusedAt}
 use Rattle.tape.specs.declared.stack.Placed.{Placed}
 use Rattle.tape.specs.declared.stack.Stack.{Stack}
 
@@ -158,3 +160,15 @@ pub record Stepped {S E : Type 0} (M : Model S E) (K : Codes) (n : ℕ) (row : R
   pub moved : Moved M K row s t (own_command M K n s row bs)
   pub answer : r ≡ bytes_taken (own_command M K n s row bs)
   pub holds : Holds M K t st (after row (own_command M K n s row bs))
+
+-- a whole tape read command by command, from a row and a place on: what the reader does at the next command, as long as one
+-- is accepted, or its refusal, or the end. Every command takes a byte, so a tape's length is fuel enough
+abbrev pub Reads : {S E : Type 0} → Model S E → Codes → ℕ → ℕ → Row → ℕ → List ℕ → S → S → Stack E → Result (Unit {0}) RefusedAt → Type 0
+Reads M K n fuel row place [] s t st r = (s ≡ t) × Holds M K t st row × (r ≡ cond (ended row) (Ok tt) (Err (at_place NoEnd place)))
+Reads M K n zero row place (b ∷ bs) s t st r = ⊥
+Reads {S} {E} M K n (suc fuel) row place (b ∷ bs) s t st r =
+    elim (own_command M K n s row (b ∷ bs)) [
+      Err e ↦ M.stays s t × Holds M K t st row × (r ≡ Err (at_place e place))
+    | Ok d ↦ (u : S) × (su : Stack E) × Moves M (is_end d.0) s (λ q. result K (row ++ d.0 ∷ []) q) u × Holds M K u su (row ++ d.0 ∷ [])
+        × Reads M K n fuel (row ++ d.0 ∷ []) (place + d.1) (drop d.1 (b ∷ bs)) u t st r
+    ]

@@ -8,7 +8,7 @@ ghost use Rattle.tape.specs.Tape.{Row};
 ghost use Rattle.tape.specs.Entries.{Model, Lasts, Gives, Makes, Within, Holds, Stepped};
 
 use crate::command::Command;
-use crate::refusal::Refusal;
+use crate::refusal::{Refusal, RefusedAt};
 use crate::rules::Rules;
 use crate::stack::Stack;
 use effects::EffectTables;
@@ -84,7 +84,7 @@ fn make<E: Entries>(
 }
 
 impl Rules<'_> {
-    ghost use Rattle.tape.specs.Entries.{Holds, Stepped};
+    ghost use Rattle.tape.specs.Entries.{Holds, Stepped, Reads};
 
     // Reads the command at the start of the bytes: how many bytes it takes, or why it is refused.
     pub fn step<E: Entries>(
@@ -105,5 +105,28 @@ impl Rules<'_> {
         let entry = make(on, self.tables, command, top, under)?;
         stack.put(command, entry);
         Ok(count)
+    }
+
+    // Reads a whole tape, up to the first command that is refused.
+    pub fn read_all<E: Entries>(
+        &self,
+        on: &mut E,
+        stack: &mut Stack<E::Entry>,
+        tape: &[u8],
+    ) -> Result<(), RefusedAt>
+        ensures kept { E.Entries.model.later on.old on.new }
+        ensures reads { (K : Algebra) (row : Row) → Closed K → Tables K self.now.tables.now → Holds E.Entries.model K on.old stack.old row → Reads E.Entries.model K self.now.facts (length tape.now) row 0 tape.now on.old on.new stack.new result }
+    {
+        let mut place = 0;
+        while place < tape.len() {
+            match self.step(on, stack, &tape[place..]) {
+                Ok(count) => place += count,
+                Err(refusal) => return Err(refusal.at(place)),
+            }
+        }
+        if !stack.ended {
+            return Err(Refusal::NoEnd.at(place));
+        }
+        Ok(())
     }
 }

@@ -1,10 +1,20 @@
-// The numbers and layers of refusals.
+// The numbers, layers and places of refusals.
 ghost use Rattle.std.specs.Prelude.{◌≡◌};
-ghost use Rattle.tape.specs.Refusals.{number_of, layer_of};
+ghost use Rattle.tape.specs.Refusals.{number_of, layer_of, at_place};
 
-use crate::refusal::{Layer, Refusal};
+use crate::refusal::{Layer, Refusal, RefusedAt};
 
 impl Refusal {
+    // The refusal at a byte place.
+    pub fn at(self, place: usize) -> RefusedAt
+        ensures { result ≡ at_place self place }
+    {
+        RefusedAt {
+            refusal: self,
+            place,
+        }
+    }
+
     // The number by which a refusal is told.
     pub fn number(self) -> u8
         ensures { result ≡ number_of self }

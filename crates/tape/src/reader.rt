@@ -63,39 +63,17 @@ pub fn read_with(
     ensures { (K : Algebra) → Closed K → Tables K tables.now → result ≡ read_answer K facts tape.now request }
 {
     if facts > 32 {
-        return Err(RefusedAt {
-            refusal: Refusal::TooManyFacts,
-            place: 0,
-        });
+        return Err(Refusal::TooManyFacts.at(0));
     }
     if beyond(facts, request) {
-        return Err(RefusedAt {
-            refusal: Refusal::UndeclaredInRequest,
-            place: 0,
-        });
+        return Err(Refusal::UndeclaredInRequest.at(0));
     }
     if tape.len() > 65535 {
-        return Err(RefusedAt {
-            refusal: Refusal::TapeTooLong,
-            place: 0,
-        });
+        return Err(Refusal::TapeTooLong.at(0));
     }
-    let rules = Rules { tables, facts };
     let mut on = AtRequest { request };
     let mut stack = Stack::empty(0u8);
-    let mut place = 0;
-    while place < tape.len() {
-        match rules.step(&mut on, &mut stack, &tape[place..]) {
-            Ok(count) => place += count,
-            Err(refusal) => return Err(RefusedAt { refusal, place }),
-        }
-    }
-    if !stack.ended {
-        return Err(RefusedAt {
-            refusal: Refusal::NoEnd,
-            place,
-        });
-    }
+    Rules { tables, facts }.read_all(&mut on, &mut stack, tape)?;
     Ok(stack.top(0))
 }
 
