@@ -25,27 +25,15 @@ impl Entries for AtRequest {
     }
 
     fn fact(&mut self, fact: u8) -> Result<u8, Refusal> {
-        if (self.request >> fact) % 2 == 1 {
-            Ok(1)
-        } else {
-            Ok(0)
-        }
+        Ok(u8::from((self.request >> fact) % 2 == 1))
     }
 
     fn any(&mut self, mask: u32) -> Result<u8, Refusal> {
-        if mask & self.request == 0 {
-            Ok(0)
-        } else {
-            Ok(1)
-        }
+        Ok(u8::from(mask & self.request != 0))
     }
 
     fn all(&mut self, mask: u32) -> Result<u8, Refusal> {
-        if mask & self.request == mask {
-            Ok(1)
-        } else {
-            Ok(0)
-        }
+        Ok(u8::from(mask & self.request == mask))
     }
 
     fn apply(&mut self, table: &[u8; 256], first: u8, second: u8) -> Result<u8, Refusal> {
