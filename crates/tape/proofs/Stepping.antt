@@ -18,35 +18,17 @@ use Rattle.tape.specs.declared.stack.Stack.{Stack}
 
 -- the tests under the rules are those under the algebra
 stated_same : (K : Codes) (R : EffectTables) → Tables K R → (x : Command) → unstatable (of_tables R) x ≡ unstatable K x
-stated_same K R T (Has f) = refl
-stated_same K R T (Any m) = refl
-stated_same K R T (All m) = refl
-stated_same K R T Not = refl
-stated_same K R T And = refl
-stated_same K R T Or = refl
 stated_same K R T (State e) =
     ap (λ (n : ℕ). leb n e || not (get_or R.statable e false)) T.counted
     ∙ ⊎_elim
     (λ l. ap (λ (b : Bool). leb K.count e || not b) (T.stated e l))
     (λ g. let t : leb K.count e ≡ true = le-leb K.count e g in ap (λ (b : Bool). b || not (get_or R.statable e false)) t ∙ sym (ap (λ (b : Bool). b || not (K.statable e)) t))
     (cases_lt e K.count)
-stated_same K R T Scope = refl
-stated_same K R T Fail = refl
-stated_same K R T (Join k) = refl
-stated_same K R T End = refl
+stated_same K R T x = refl
 
 combined_same : (K : Codes) (R : EffectTables) → Tables K R → (x : Command) → no_combiner (of_tables R) x ≡ no_combiner K x
-combined_same K R T (Has f) = refl
-combined_same K R T (Any m) = refl
-combined_same K R T (All m) = refl
-combined_same K R T Not = refl
-combined_same K R T And = refl
-combined_same K R T Or = refl
-combined_same K R T (State e) = refl
-combined_same K R T Scope = refl
-combined_same K R T Fail = refl
 combined_same K R T (Join k) = ap (λ (n : ℕ). leb n k) T.combiners
-combined_same K R T End = refl
+combined_same K R T x = refl
 
 abbrev tests : Codes → ℕ → List Kind → Command × ℕ → Result (Command × ℕ) Refusal
 tests K n ks d = then (first_of (operand_tests K n d.0) (tt {0})) (then (first_of (stack_tests ks d.0) (tt {0})) (Ok d))

@@ -101,16 +101,9 @@ Meant M s (e ∷ es) F = M.sense s e (λ q. slice_index (F q) 0) × Meant M s es
 -- a command whose operand is within its limit: 32 facts, 16 codes, 4 combiners
 abbrev pub Within : Command → Type 0
 Within (Has f) = f < 32
-Within (Any m) = Unit {0}
-Within (All m) = Unit {0}
-Within Not = Unit {0}
-Within And = Unit {0}
-Within Or = Unit {0}
 Within (State e) = e < 16
-Within Scope = Unit {0}
-Within Fail = Unit {0}
 Within (Join k) = k < 4
-Within End = Unit {0}
+Within _ = Unit {0}
 
 -- there is room for a command: what it takes is there, and what it leaves fits
 pub record Room (x : Command) (depth : ℕ) : Type 0 where
