@@ -33,18 +33,12 @@ reads_end M fuel K n row place (b ∷ bs) s st r l w e = absurd (omega arith)
 
 -- what an answer says of the command
 came_ok : (P : Row → Type 0) (row : Row) (v : Result (Command × ℕ) Refusal) (c : ℕ) → ◌≡◌ {A = Result ℕ Refusal} (Ok c) (bytes_taken v) → P (after row v) → (d : Command × ℕ) × ((v ≡ Ok d) × (d.1 ≡ c) × P (row ++ d.0 ∷ []))
-came_ok P row (Ok d) c p h = (d, (refl, num d.1 c p, h))
-  where
-    num : (a c : ℕ) → ◌≡◌ {A = Result ℕ Refusal} (Ok c) (Ok a) → a ≡ c
-    num a c p = cc
-came_ok P row (Err e) c p h = let z : ◌≡◌ {A = ℕ} 0 1 = cc in absurd (omega arith)
+came_ok P row (Ok d) c p h = (d, (refl, cc, h))
+came_ok P row (Err e) c p h = absurd cc
 
 came_err : (v : Result (Command × ℕ) Refusal) (e : Refusal) → ◌≡◌ {A = Result ℕ Refusal} (Err e) (bytes_taken v) → v ≡ Err e
-came_err (Ok d) e p = let z : ◌≡◌ {A = ℕ} 0 1 = cc in absurd (omega arith)
-came_err (Err f) e p = ap (λ (r : Refusal). Err r) (num f e p)
-  where
-    num : (a c : Refusal) → ◌≡◌ {A = Result ℕ Refusal} (Err c) (Err a) → a ≡ c
-    num a c p = cc
+came_err (Ok d) e p = absurd cc
+came_err (Err f) e p = cc
 
 -- the tape is read up to a place: reading it from there on is reading it from the start on
 pub record Reached {S E : Type 0} (M : Model S E) (K : Codes) (n : ℕ) (first : Row) (tape : List ℕ) (start s : S) (st : Stack E) (place : ℕ) : Type 0 where

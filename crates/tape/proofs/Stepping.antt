@@ -54,58 +54,48 @@ pub record Passed (K : Codes) (ks : List Kind) (x : Command) : Type 0 where
   -- END finds one entry
   pub alone : is_end x ≡ true → length ks ≡ 1
 
-never : {A B : Type 0} (e : Refusal) (a : A) → ◌≡◌ {A = Result A Refusal} (Err e) (Ok a) → B
-never e a p = let z : ◌≡◌ {A = ℕ} 0 1 = cc in absurd (omega arith)
+-- no test holds
+abbrev Clear : Tests → Type 0
+Clear [] = Unit {0}
+Clear (t ∷ ts) = (t.0 ≡ false) × Clear ts
+
+clear : {A : Type 0} (ts : Tests) (a b : A) → first_of ts a ≡ Ok b → Clear ts × (a ≡ b)
+clear [] a b p = (tt, cc)
+clear ((true, e) ∷ ts) a b p = absurd cc
+clear ((false, e) ∷ ts) a b p = let r = clear ts a b p in ((refl, r.0), r.1)
 
 inv_then : {A : Type 0} (v : Result (Unit {0}) Refusal) (w : Result A Refusal) (d : A) → then v w ≡ Ok d → (v ≡ Ok tt) × (w ≡ Ok d)
 inv_then (Ok u) w d p = (refl, p)
-inv_then (Err e) w d p = never e d p
+inv_then (Err e) w d p = absurd cc
 
 inv_bind : {A B : Type 0} (v : Result A Refusal) (k : A → Result B Refusal) (d : B) → bind v k ≡ Ok d → (a : A) × (k a ≡ Ok d)
 inv_bind (Ok a) k d p = (a, p)
-inv_bind (Err e) k d p = never e d p
+inv_bind (Err e) k d p = absurd cc
 
-pub inv_cond : {A : Type 0} (b : Bool) (e : Refusal) (w : Result A Refusal) (d : A) → cond b (Err e) w ≡ Ok d → (b ≡ false) × (w ≡ Ok d)
-inv_cond true e w d p = never e d p
-inv_cond false e w d p = (refl, p)
+fitted_of : (end fit one : Bool) → (not end && not fit) ≡ false → (end && not (one && fit)) ≡ false → fit ≡ true
+fitted_of end true one p q = refl
+fitted_of false false one p q = absurd cc
+fitted_of true false true p q = absurd cc
+fitted_of true false false p q = absurd cc
 
-fitted_of : (ks : List Kind) (x : Command) → (not (is_end x) && not (fits (takes x) ks)) ≡ false → (is_end x && not (eqb (length ks) 1 && fits (takes x) ks)) ≡ false → fits (takes x) ks ≡ true
-fitted_of ks x p q = by (is_end x) (fits (takes x) ks) (eqb (length ks) 1) p q
-  where
-    by : (a f l : Bool) → (not a && not f) ≡ false → (a && not (l && f)) ≡ false → f ≡ true
-    by a true l p q = refl
-    by false false l p q = absurd (true≢false p)
-    by true false true p q = absurd (true≢false q)
-    by true false false p q = absurd (true≢false q)
-
-alone_of : (ks : List Kind) (x : Command) → (is_end x && not (eqb (length ks) 1 && fits (takes x) ks)) ≡ false → is_end x ≡ true → length ks ≡ 1
-alone_of ks x p e = by (is_end x) (eqb (length ks) 1) (fits (takes x) ks) refl p e
-  where
-    by : (a b f : Bool) → eqb (length ks) 1 ≡ b → (a && not (b && f)) ≡ false → a ≡ true → length ks ≡ 1
-    by true true f q p e = eqb-true (length ks) 1 q
-    by true false f q p e = absurd (true≢false p)
-    by false b f q p e = absurd (false≢true e)
+alone_of : (end fit one : Bool) → (end && not (one && fit)) ≡ false → end ≡ true → one ≡ true
+alone_of true fit true q e = refl
+alone_of true fit false q e = absurd cc
+alone_of false fit one q e = absurd cc
 
 -- it has also no undeclared fact, and stands before END
 pub passed : (K : Codes) (n : ℕ) (over : Bool) (ks : List Kind) (bs : List ℕ) (d : Command × ℕ) → checked K n over ks bs ≡ Ok d → Passed K ks d.0 × (undeclared n d.0 ≡ false) × (over ≡ false)
 unfolding checked
-passed K n over ks bs d p =
-    let a = inv_cond over AfterEnd (bind (decoded bs) (tests K n ks)) d p in
-    let b = inv_bind (decoded bs) (tests K n ks) d a.1 in
+passed K n true ks bs d p = absurd cc
+passed K n false ks bs d p =
+    let b = inv_bind (decoded bs) (tests K n ks) d p in
     let x = b.0.0 in
     let c = inv_then (first_of (operand_tests K n x) (tt {0})) (then (first_of (stack_tests ks x) (tt {0})) (Ok b.0)) d b.1 in
-    let o1 = inv_cond (undeclared n x) UndeclaredFact _ tt c.0 in
-    let o2 = inv_cond (unstatable K x) NotStatable _ tt o1.1 in
-    let o3 = inv_cond (no_combiner K x) NoCombiner _ tt o2.1 in
     let e = inv_then (first_of (stack_tests ks x) (tt {0})) (Ok b.0) d c.1 in
-    let s1 = inv_cond (not (is_end x) && not (fits (takes x) ks)) WrongEntry _ tt e.0 in
-    let s2 = inv_cond (eqb (length (takes x)) 0 && leb 32 (length ks)) StackFull _ tt s1.1 in
-    let s3 = inv_cond (is_end x && not (eqb (length ks) 1 && fits (takes x) ks)) WrongEnd _ tt s2.1 in
-    let same : b.0 ≡ d = ok_same b.0 d e.1 in
-    (subst (λ (y : Command × ℕ). Passed K ks y.0) same (record { stated = o2.0; combiner = o3.0; fitted = fitted_of ks x s1.0 s3.0; alone = alone_of ks x s3.0 }), subst (λ (y : Command × ℕ). undeclared n y.0 ≡ false) same o1.0, a.0)
-  where
-    ok_same : (x y : Command × ℕ) → ◌≡◌ {A = Result (Command × ℕ) Refusal} (Ok x) (Ok y) → x ≡ y
-    ok_same x y p = cc
+    let o = (clear (operand_tests K n x) tt tt c.0).0 in
+    let s = (clear (stack_tests ks x) tt tt e.0).0 in
+    let same : b.0 ≡ d = cc in
+    (subst (λ (y : Command × ℕ). Passed K ks y.0) same (record { stated = o.1.0; combiner = o.1.1.0; fitted = fitted_of _ _ _ s.0 s.1.1.0; alone = λ q. eqb-true (length ks) 1 (alone_of _ _ _ s.1.1.0 q) }), subst (λ (y : Command × ℕ). undeclared n y.0 ≡ false) same o.0, refl)
 
 -- the entries that a command takes mean what they should
 abbrev Tops : Codes → List Kind → List ℕ → Type 0
