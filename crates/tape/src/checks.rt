@@ -79,6 +79,7 @@ impl<T: Copy> Stack<T> {
     }
 
     // Takes what a command takes, and leaves its entry.
+    #[tactic(auto, using(crate::proofs::Tops::put_on_top))]
     pub(crate) fn put(&mut self, command: Command, entry: T)
         requires { Room command (length self.old.entries.items) }
         ensures { Put command entry self.old self.new }
@@ -111,6 +112,7 @@ impl Rules<'_> {
     }
 
     // The command at the start of the bytes, with the bytes that it takes.
+    #[tactic(auto, unfolding(crate::specs::Tape::checked))]
     pub(crate) fn next<T: Copy>(
         &self,
         stack: &Stack<T>,

@@ -42,6 +42,7 @@ impl Entries for AtRequest {
 }
 
 // Reads a tape at one request by an algebra's tables: the code of its policy's effect there.
+#[tactic(auto, unfolding(crate::specs::Tape::read_answer))]
 pub fn read_with(
     tables: &EffectTables,
     facts: u8,

@@ -16,18 +16,6 @@ use Rattle.tape.proofs.reader.read_with.Goals as goal
 read_so : (K : Codes) (n : ℕ) (tape : List ℕ) (s t : AtRequest) (st : Stack ℕ) (r : Result (Unit {0}) RefusedAt) → Reads at_model K n (length tape) [] 0 tape s t st r → Reading at_model (λ _ _. Unit {0}) K t st (tape_from (length tape) K n no_tests [] 0 tape) r
 read_so K n tape s t st r x = reading at_model (λ _ _. Unit {0}) no_tests K n (λ row bs s a. unlimited K n row bs) (λ row bs s u su d a o m h. tt) (length tape) [] 0 tape s t st r tt x
 
-pub returns-then-facts-gt32 : goal.returns-then-facts-gt32
-unfolding read_answer
-returns-then-facts-gt32 c = search rules
-
-pub returns-then-beyond : goal.returns-then-beyond
-unfolding read_answer
-returns-then-beyond c = search rules
-
-pub returns-then-tape-gt65535 : goal.returns-then-tape-gt65535
-unfolding read_answer
-returns-then-tape-gt65535 c = search rules
-
 pub returns-in_err-read_all : goal.returns-in_err-read_all
 returns-in_err-read_all c = λ K C T.
     let tape = c.args.tape.now in
