@@ -161,7 +161,7 @@ Reads M K n fuel row place [] s t st r = (s ≡ t) × Holds M K t st row × (r �
 Reads M K n zero row place (b ∷ bs) s t st r = ⊥
 Reads {S} {E} M K n (suc fuel) row place (b ∷ bs) s t st r =
     elim (own_command M K n s row (b ∷ bs)) [
-      Err e ↦ M.stays s t × Holds M K t st row × (r ≡ Err (at_place e place))
-    | Ok d ↦ (u : S) × (su : Stack E) × Moves M (is_end d.0) s (λ q. result K (row ++ d.0 ∷ []) q) u × Holds M K u su (row ++ d.0 ∷ [])
-        × Reads M K n fuel (row ++ d.0 ∷ []) (place + d.1) (drop d.1 (b ∷ bs)) u t st r
+      | Err e ↦ M.stays s t × Holds M K t st row × (r ≡ Err (at_place e place))
+      | Ok d ↦ (u : S) × (su : Stack E) × Moves M (is_end d.0) s (λ q. result K (row ++ d.0 ∷ []) q) u × Holds M K u su (row ++ d.0 ∷ [])
+          × Reads M K n fuel (row ++ d.0 ∷ []) (place + d.1) (drop d.1 (b ∷ bs)) u t st r
     ]

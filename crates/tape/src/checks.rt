@@ -66,8 +66,8 @@ impl<T: Copy> Stack<T> {
         match (command, self.kind(0), self.kind(1)) {
             (Command::End, Some(Kind::Policy), None) => Ok(()),
             (Command::End, _, _) => Err(Refusal::WrongEnd),
-            (Command::Has(_) | Command::Any(_) | Command::All(_) | Command::State(_), _, _) if full =>
-                Err(Refusal::StackFull),
+            (Command::Has(_) | Command::Any(_) | Command::All(_) | Command::State(_), _, _)
+                if full => Err(Refusal::StackFull),
             (Command::Has(_) | Command::Any(_) | Command::All(_) | Command::State(_), _, _)
             | (Command::Not, Some(Kind::Condition), _)
             | (Command::And | Command::Or, Some(Kind::Condition), Some(Kind::Condition))
@@ -101,12 +101,16 @@ impl Rules<'_> {
     {
         match command {
             Command::Has(fact) if fact >= self.facts => Err(Refusal::UndeclaredFact),
-            Command::Any(mask) | Command::All(mask) if beyond(self.facts, mask) =>
-                Err(Refusal::UndeclaredFact),
-            Command::State(code) if code >= self.tables.count
-            || !self.tables.statable[code as usize] => Err(Refusal::NotStatable),
-            Command::Join(combiner) if combiner >= self.tables.combiner_count =>
-                Err(Refusal::NoCombiner),
+            Command::Any(mask) | Command::All(mask) if beyond(self.facts, mask) => Err(
+                Refusal::UndeclaredFact,
+            ),
+            Command::State(code)
+                if code >= self.tables.count || !self.tables.statable[code as usize] => Err(
+                Refusal::NotStatable,
+            ),
+            Command::Join(combiner) if combiner >= self.tables.combiner_count => Err(
+                Refusal::NoCombiner,
+            ),
             _ => Ok(()),
         }
     }

@@ -108,6 +108,7 @@ impl Rules<'_> {
     }
 
     // Reads a whole tape, up to the first command that is refused.
+    #[tactic(auto, using(crate::proofs::Reading::reached_none))]
     pub fn read_all<E: Entries>(
         &self,
         on: &mut E,

@@ -5,13 +5,6 @@ use Rattle.tape.specs.Entries.{Stepped, Reads}
 use Rattle.tape.proofs.Reading.{reached_none, reached_more, reached_refused, reached_end}
 use Rattle.tape.proofs.rules.Rules.read_all.Goals as goal
 
-pub loop-place-init : goal.loop-place-init
-loop-place-init g c = record {
-  within = omega arith;
-  kept = g.E.Entries.lasts.same c.args.on.now;
-  reached = λ K row C T h. reached_none g.E.Entries.model K c.args.self.now.facts row c.args.tape.now c.args.on.now c.args.stack.now h;
-}
-
 pub loop-place-preserved : goal.loop-place-preserved
 loop-place-preserved g c =
     let M = g.E.Entries.model in
