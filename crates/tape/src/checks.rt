@@ -29,6 +29,13 @@ impl<T: Copy> Stack<T> {
         self.entry(0).unwrap_or(none)
     }
 
+    // The entry under the top one, or `none`.
+    pub(crate) fn under(&self, none: T) -> T
+        ensures { result ≡ slice_index_or (entries_on self.now) 1 none }
+    {
+        self.entry(1).unwrap_or(none)
+    }
+
     // What lies so many under the top.
     fn placed(&self, below: usize) -> Option<Placed<T>>
         ensures { result ≡ slice_get (placed self.now) below }
@@ -41,13 +48,6 @@ impl<T: Copy> Stack<T> {
         ensures { result ≡ slice_get (kinds_on self.now) below }
     {
         Some(self.placed(below)?.kind)
-    }
-
-    // The entry under the top one, or `none`.
-    pub(crate) fn under(&self, none: T) -> T
-        ensures { result ≡ slice_index_or (entries_on self.now) 1 none }
-    {
-        self.entry(1).unwrap_or(none)
     }
 
     // Its entry.
@@ -101,16 +101,16 @@ impl Rules<'_> {
     {
         match command {
             Command::Has(fact) if fact >= self.facts => Err(Refusal::UndeclaredFact),
-            Command::Any(mask) | Command::All(mask) if beyond(self.facts, mask) => Err(
-                Refusal::UndeclaredFact,
-            ),
+            Command::Any(mask) | Command::All(mask) if beyond(self.facts, mask) => {
+                Err(Refusal::UndeclaredFact)
+            }
             Command::State(code)
-                if code >= self.tables.count || !self.tables.statable[code as usize] => Err(
-                Refusal::NotStatable,
-            ),
-            Command::Join(combiner) if combiner >= self.tables.combiner_count => Err(
-                Refusal::NoCombiner,
-            ),
+                if code >= self.tables.count || !self.tables.statable[code as usize] => {
+                Err(Refusal::NotStatable)
+            }
+            Command::Join(combiner) if combiner >= self.tables.combiner_count => {
+                Err(Refusal::NoCombiner)
+            }
             _ => Ok(()),
         }
     }

@@ -10,7 +10,7 @@ pub struct Placed<T> {
     pub entry: T,
 }
 
-// A place of the stack that is not in use is blank: it holds an entry of no meaning.
+// The places of a stack that are not in use hold blanks, made of an entry that the stack is given for that.
 impl<T: Copy> MadeWith<T> for Placed<T> {
     fn made_with(blank: T) -> Placed<T> {
         Placed {
