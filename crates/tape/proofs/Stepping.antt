@@ -98,30 +98,33 @@ passed K n false ks bs d p =
     (subst (λ (y : Command × ℕ). Passed K ks y.0) same (record { stated = o.1.0; combiner = o.1.1.0; fitted = fitted_of _ _ _ s.0 s.1.1.0; alone = λ q. eqb-true (length ks) 1 (alone_of _ _ _ s.1.1.0 q) }), subst (λ (y : Command × ℕ). undeclared n y.0 ≡ false) same o.0, refl)
 
 -- the entries that a command takes mean what they should
-abbrev Tops : Codes → List Kind → List ℕ → Type 0
-Tops K [] vs = Unit {0}
-Tops K (w ∷ ws) vs = Fit K w (get_or vs 0 0) × Tops K ws (drop 1 vs)
+abbrev Tops : Codes → List Kind → List ℕ → ℕ → Type 0
+Tops K [] vs i = Unit {0}
+Tops K (w ∷ ws) vs i = Fit K w (get_or vs i 0) × Tops K ws vs (suc i)
+
+tops_under : (K : Codes) (ws : List Kind) (v : ℕ) (vs : List ℕ) (i : ℕ) → Tops K ws vs i → Tops K ws (v ∷ vs) (suc i)
+tops_under K [] v vs i t = tt
+tops_under K (w ∷ ws) v vs i t = (t.0, tops_under K ws v vs (suc i) t.1)
 
 same : (K : Codes) (w k : Kind) (v : ℕ) → same_kind w k ≡ true → Fit K k v → Fit K w v
 same K Condition Condition v e h = h
-same K Condition Policy v e h = absurd (false≢true e)
-same K Policy Condition v e h = absurd (false≢true e)
 same K Policy Policy v e h = h
+same K _ _ v e h = absurd (false≢true e)
 
-taken : (K : Codes) (ws ks : List Kind) (vs : List ℕ) → fits ws ks ≡ true → Sound K ks vs → Tops K ws vs × Sound K (drop (length ws) ks) (drop (length ws) vs)
+taken : (K : Codes) (ws ks : List Kind) (vs : List ℕ) → fits ws ks ≡ true → Sound K ks vs → Tops K ws vs 0 × Sound K (drop (length ws) ks) (drop (length ws) vs)
 taken K [] ks vs e s = (tt, s)
 taken K (w ∷ ws) [] vs e s = absurd (false≢true e)
 taken K (w ∷ ws) (k ∷ ks) [] e s = absurd s
 taken K (w ∷ ws) (k ∷ ks) (v ∷ vs) e s =
     let b = and_parts (same_kind w k) (fits ws ks) e in
     let t = taken K ws ks vs b.1 s.1 in
-    ((same K w k v b.0 s.0, t.0), t.1)
+    ((same K w k v b.0 s.0, tops_under K ws v vs 0 t.0), t.1)
 
 small_bit : (b : Bool) → bit b ≤ 1
 small_bit true = omega arith
 small_bit false = omega arith
 
-makes_sound : (K : Codes) → Closed K → (r : ℕ) (x : Command) (vs : List ℕ) → unstatable K x ≡ false → Tops K (takes x) vs → Fit K (leaves x) (means K r x (get_or vs 0 0) (get_or vs 1 0))
+makes_sound : (K : Codes) → Closed K → (r : ℕ) (x : Command) (vs : List ℕ) → unstatable K x ≡ false → Tops K (takes x) vs 0 → Fit K (leaves x) (means K r x (get_or vs 0 0) (get_or vs 1 0))
 makes_sound K C r (Has f) vs u t = small_bit (has f r)
 makes_sound K C r (Any m) vs u t = small_bit (any m r)
 makes_sound K C r (All m) vs u t = small_bit (all m r)
@@ -129,32 +132,20 @@ makes_sound K C r Not vs u t = omega arith
 makes_sound K C r And vs u t = small_bit _
 makes_sound K C r Or vs u t = small_bit _
 makes_sound K C r (State e) vs u t = leb-false K.count e (or_parts _ _ u).0
-makes_sound K C r Scope [] u t = C.not_applicable_below
-makes_sound K C r Scope (v ∷ vs) u t = cond_both (eqb v 1) _ _ (λ n. n < K.count) (λ _. t.1.0) (λ _. C.not_applicable_below)
-makes_sound K C r Fail [] u t = t.1.0
-makes_sound K C r Fail (v ∷ vs) u t = cond_both (eqb v 1) _ _ (λ n. n < K.count) (λ _. C.failed_below _ t.1.0) (λ _. t.1.0)
-makes_sound K C r (Join k) [] u t = C.combined_below k _ _ t.1.0 t.0
-makes_sound K C r (Join k) (v ∷ vs) u t = C.combined_below k _ _ t.1.0 t.0
+makes_sound K C r Scope vs u t = cond_both (eqb (get_or vs 0 0) 1) _ _ (λ n. n < K.count) (λ _. t.1.0) (λ _. C.not_applicable_below)
+makes_sound K C r Fail vs u t = cond_both (eqb (get_or vs 0 0) 1) _ _ (λ n. n < K.count) (λ _. C.failed_below _ t.1.0) (λ _. t.1.0)
+makes_sound K C r (Join k) vs u t = C.combined_below k _ _ t.1.0 t.0
 makes_sound K C r End vs u t = t.0
 
 -- and what the rules make of them is what the algebra makes of them
-tabled_means : (K : Codes) (R : EffectTables) → Tables K R → (r : ℕ) (x : Command) (vs : List ℕ) → no_combiner K x ≡ false → Tops K (takes x) vs → tabled R r x (get_or vs 0 0) (get_or vs 1 0) ≡ means K r x (get_or vs 0 0) (get_or vs 1 0)
-tabled_means K R T r (Has f) vs u t = refl
-tabled_means K R T r (Any m) vs u t = refl
-tabled_means K R T r (All m) vs u t = refl
-tabled_means K R T r Not vs u t = T.negated (get_or vs 0 0) t.0
-tabled_means K R T r And [] u t = T.both 0 0 t.1.0 t.0
-tabled_means K R T r And (v ∷ vs) u t = T.both (get_or vs 0 0) v t.1.0 t.0
-tabled_means K R T r Or [] u t = T.either 0 0 t.1.0 t.0
-tabled_means K R T r Or (v ∷ vs) u t = T.either (get_or vs 0 0) v t.1.0 t.0
-tabled_means K R T r (State e) vs u t = refl
-tabled_means K R T r Scope [] u t = T.scope 0 0 t.1.0 t.0
-tabled_means K R T r Scope (v ∷ vs) u t = T.scope (get_or vs 0 0) v t.1.0 t.0
-tabled_means K R T r Fail [] u t = T.fail 0 0 t.1.0 t.0
-tabled_means K R T r Fail (v ∷ vs) u t = T.fail (get_or vs 0 0) v t.1.0 t.0
-tabled_means K R T r (Join k) [] u t = T.combine k 0 0 (leb-false K.combiners k u) t.1.0 t.0
-tabled_means K R T r (Join k) (v ∷ vs) u t = T.combine k (get_or vs 0 0) v (leb-false K.combiners k u) t.1.0 t.0
-tabled_means K R T r End vs u t = refl
+tabled_means : (K : Codes) (R : EffectTables) → Tables K R → (r : ℕ) (x : Command) (vs : List ℕ) → no_combiner K x ≡ false → Tops K (takes x) vs 0 → tabled R r x (get_or vs 0 0) (get_or vs 1 0) ≡ means K r x (get_or vs 0 0) (get_or vs 1 0)
+tabled_means K R T r Not vs u t = T.negated _ t.0
+tabled_means K R T r And vs u t = T.both _ _ t.1.0 t.0
+tabled_means K R T r Or vs u t = T.either _ _ t.1.0 t.0
+tabled_means K R T r Scope vs u t = T.scope _ _ t.1.0 t.0
+tabled_means K R T r Fail vs u t = T.fail _ _ t.1.0 t.0
+tabled_means K R T r (Join k) vs u t = T.combine k _ _ (leb-false K.combiners k u) t.1.0 t.0
+tabled_means K R T r x vs u t = refl
 
 stack_more : {V : Type 0} (R : Reader V) (vs : List V) (row : Row) (x : Command) → stack R vs (row ++ x ∷ []) ≡ R.makes x (get_or (stack R vs row) 0 R.none) (get_or (stack R vs row) 1 R.none) ∷ drop (length (takes x)) (stack R vs row)
 stack_more R vs [] x = refl
