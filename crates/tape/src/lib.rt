@@ -19,7 +19,7 @@ pub use command::{Command, Kind};
 pub use decode::beyond;
 pub use entries::Entries;
 pub use holdings::holdings_stand;
-pub use reader::{read, read_with};
+pub use reader::{LONGEST_TAPE, read, read_with};
 pub use refusal::{Layer, Refusal, RefusedAt};
 pub use rules::Rules;
 pub use stack::{Placed, Stack};

@@ -13,6 +13,9 @@ use crate::rules::Rules;
 use crate::stack::Stack;
 use effects::{EffectAlgebra, EffectTables};
 
+// The most bytes of a tape.
+pub const LONGEST_TAPE: usize = 65535;
+
 impl Entries for AtRequest {
     type Entry = u8;
 
@@ -57,7 +60,7 @@ pub fn read_with(
     if beyond(facts, request) {
         return Err(Refusal::UndeclaredInRequest.at(0));
     }
-    if tape.len() > 65535 {
+    if tape.len() > LONGEST_TAPE {
         return Err(Refusal::TapeTooLong.at(0));
     }
     let mut on = AtRequest { request };

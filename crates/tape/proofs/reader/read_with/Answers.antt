@@ -21,7 +21,7 @@ returns-in_err-read_all c = λ K C T.
     let tape = c.args.tape.now in
     let p = err_from_is_err_and c.from_residual.result c.from_residual.ensures.1 in
     let x = read_so K c.args.facts tape _ _ _ _ (c.in_err-read_all.ensures.reads K [] C T (holds_empty at_model K _ _ c.empty-stack.ensures.bare c.empty-stack.ensures.unended)) in
-    rw (p.1, p.2) (sym (past_tests K c.args.facts tape c.args.request _ (le-ltb 32 c.args.facts c.if-facts-gt32.false) (sym c.if-beyond.ensures) (le-ltb 65535 (length tape) c.if-tape-gt65535.false) (reading_err at_model (λ _ _. Unit {0}) K c.read_all.new.on c.read_all.new.stack (tape_from (length tape) K c.args.facts no_tests [] 0 tape) _ x)))
+    rw (p.1, p.2) (sym (past_tests K c.args.facts tape c.args.request _ (le-ltb 32 c.args.facts c.if-facts-gt32.false) (sym c.if-beyond.ensures) (le-ltb 65535 (length tape) c.if-tape-gt-LONGEST_TAPE.false) (reading_err at_model (λ _ _. Unit {0}) K c.read_all.new.on c.read_all.new.stack (tape_from (length tape) K c.args.facts no_tests [] 0 tape) _ x)))
 
 pub returns : goal.returns
 returns c = λ K C T.
@@ -32,4 +32,4 @@ returns c = λ K C T.
     let w = reading_ok at_model (λ _ _. Unit {0}) K on st (tape_from (length tape) K c.args.facts no_tests [] 0 tape) _ x in
     let m = meant_at at_model on 0 refl (entries_on st) (values K w.0) 0 w.1.1.meant in
     ap (λ (n : ℕ). Ok n) (c.top.ensures ∙ m ∙ ap (λ (q : ℕ). result K w.0 q) (sym c.in_ok-read_all.ensures.kept))
-    ∙ sym (past_tests K c.args.facts tape c.args.request _ (le-ltb 32 c.args.facts c.if-facts-gt32.false) (sym c.if-beyond.ensures) (le-ltb 65535 (length tape) c.if-tape-gt65535.false) w.1.0)
+    ∙ sym (past_tests K c.args.facts tape c.args.request _ (le-ltb 32 c.args.facts c.if-facts-gt32.false) (sym c.if-beyond.ensures) (le-ltb 65535 (length tape) c.if-tape-gt-LONGEST_TAPE.false) w.1.0)
