@@ -1,16 +1,15 @@
 -- Reading a whole tape, command by command.
-use Rattle.std.proofs.Common.{◌≡◌, ℕ, zero, suc, ◌+◌, ◌-◌, ◌^◌, ◌<◌, ◌≤◌, Bool, true, false, cond, not, ◌&&◌, ltb, leb, List, [], ◌∷◌, ◌++◌, length, take, drop, map, reverse, Ok, Err, Result, sym, refl, ap, ◌∙◌, subst, arith, length-drop, drop_of_length-le, take_all, drop-drop}
+use Rattle.std.proofs.Common.{◌≡◌, ℕ, zero, suc, ◌+◌, ◌-◌, ◌^◌, ◌<◌, ◌≤◌, Bool, true, false, cond, not, ◌&&◌, ltb, leb, List, [], ◌∷◌, ◌++◌, length, drop, map, reverse, Ok, Err, Result, sym, refl, ap, ◌∙◌, subst, arith, length-drop, drop-drop}
 use mathlib.Core.Path.{fun_ext}
-use Rattle.std.proofs.lemmas.Bool.{cond-true, cond-false}
+use Rattle.std.proofs.lemmas.Bool.{cond-false}
 use Rattle.effects.specs.Codes.{Codes}
 use Rattle.tape.specs.Refusals.{at_place}
 use Rattle.tape.specs.Tape.{Row, values, kinds, is_end, ended, result, Tests, first_of, bind, checked, next_command, after, bytes_taken, tape_from, told, no_tests, read_answer}
-use Rattle.tape.specs.Entries.{Model, entries_on, kinds_on, Meant, Holds, own_tests, own_command, Moves, Moved, Stepped, Reads}
+use Rattle.tape.specs.Entries.{Model, Meant, Holds, own_tests, own_command, Moves, Moved, Stepped, Reads}
 use Rattle.tape.specs.declared.command.Command.{Command}
-use Rattle.tape.specs.declared.command.Kind.TheVariants.{Condition}
 use Rattle.tape.specs.declared.refusal.Refusal.{Refusal}
 use Rattle.tape.specs.declared.refusal.RefusedAt.{RefusedAt}
-use Rattle.tape.specs.declared.refusal.Refusal.TheVariants.{NoSlot, NoEnd, TooManyFacts, UndeclaredInRequest, TapeTooLong}
+use Rattle.tape.specs.declared.refusal.Refusal.TheVariants.{NoSlot, NoEnd}
 use Rattle.tape.specs.declared.stack.Placed.{Placed}
 use Rattle.tape.specs.declared.stack.Stack.{Stack}
 

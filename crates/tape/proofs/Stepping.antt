@@ -1,7 +1,7 @@
 -- One command: what the tests say under the algebra, and what the stack means after it.
 use Rattle.std.proofs.Common.{◌≡◌, ℕ, zero, suc, ◌<◌, ◌≤◌, Bool, true, false, cond, not, ◌&&◌, ◌||◌, eqb, leb, List, [], ◌∷◌, ◌++◌, length, get_or, drop, Ok, Err, Result, sym, refl, ap, ◌∙◌, subst, ⊎_elim, arith}
 use mathlib.Core.Path.{fun_ext}
-use Rattle.std.proofs.lemmas.Bool.{cond_both, eqb-true, and_parts, or_parts, leb-false, le-leb, false≢true, true≢false, cond-true, cond-false, cases_lt}
+use Rattle.std.proofs.lemmas.Bool.{cond_both, eqb-true, and_parts, or_parts, leb-false, le-leb, false≢true, cond-true, cond-false, cases_lt}
 use Rattle.effects.specs.Codes.{Codes, Closed}
 use Rattle.tape.specs.Requests.{has, any, all}
 use Rattle.tape.specs.Tape.{Row, same_kind, takes, leaves, Reader, stack, of_kinds, means, at_request, values, result, kinds, is_end, ended, decoded, fits, undeclared, unstatable, no_combiner, Tests, first_of, operand_tests, stack_tests, bind, then, checked, next_command, after, bytes_taken}
@@ -12,7 +12,7 @@ use Rattle.tape.specs.declared.command.Command.TheVariants.{Has, Any, All, Not, 
 use Rattle.tape.specs.declared.command.Kind.{Kind}
 use Rattle.tape.specs.declared.command.Kind.TheVariants.{Condition, Policy}
 use Rattle.tape.specs.declared.refusal.Refusal.{Refusal}
-use Rattle.tape.specs.declared.refusal.Refusal.TheVariants.{UndeclaredFact, NotStatable, NoCombiner, WrongEntry, StackFull, WrongEnd, AfterEnd, NoSlot}
+use Rattle.tape.specs.declared.refusal.Refusal.TheVariants.{UndeclaredFact, NotStatable, NoCombiner, AfterEnd, NoSlot}
 use Rattle.effects.specs.declared.tables.EffectTables.{EffectTables}
 use Rattle.tape.specs.declared.stack.Stack.{Stack}
 

@@ -1,8 +1,8 @@
-use Rattle.std.proofs.Common.{◌≡◌, ℕ, ◌≤◌, [], List, length, Ok, Err, Result, sym, refl, ap, ◌∙◌, rules}
+use Rattle.std.proofs.Common.{ℕ, [], List, length, Ok, Result, sym, refl, ap, ◌∙◌}
 use Rattle.std.proofs.lemmas.Bool.{le-ltb}
 use Rattle.std.proofs.lemmas.Result.{err_from_is_err_and}
 use Rattle.effects.specs.Codes.{Codes}
-use Rattle.tape.specs.Tape.{Row, no_tests, values, result, tape_from, read_answer}
+use Rattle.tape.specs.Tape.{no_tests, values, result, tape_from}
 use Rattle.tape.specs.Readers.{at_model}
 use Rattle.tape.specs.Entries.{Reads, entries_on}
 use Rattle.tape.specs.declared.at_request.AtRequest.{AtRequest}

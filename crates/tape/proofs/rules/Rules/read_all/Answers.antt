@@ -1,8 +1,8 @@
-use Rattle.std.proofs.Common.{◌≡◌, ◌+◌, ◌-◌, ◌<◌, ◌≤◌, List, length, take, drop, Ok, Err, sym, ap, ◌∙◌, subst, arith, length-drop}
+use Rattle.std.proofs.Common.{◌<◌, ◌≤◌, length, drop, Ok, Err, sym, ap, ◌∙◌, subst, arith, length-drop}
 use Rattle.std.proofs.lemmas.List.{take_rest}
 use Rattle.std.proofs.lemmas.Bool.{cond-true, cond-false}
-use Rattle.tape.specs.Entries.{Stepped, Reads}
-use Rattle.tape.proofs.Reading.{reached_none, reached_more, reached_refused, reached_end}
+use Rattle.tape.specs.Entries.{Stepped}
+use Rattle.tape.proofs.Reading.{reached_more, reached_refused, reached_end}
 use Rattle.tape.proofs.rules.Rules.read_all.Goals as goal
 
 pub loop-place-preserved : goal.loop-place-preserved
