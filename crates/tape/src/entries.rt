@@ -121,7 +121,7 @@ impl Rules<'_> {
         let mut place = 0;
         while place < tape.len() {
             match self.step(on, stack, &tape[place..]) {
-                Ok(count) => place += count,
+                Ok(taken) => place += taken,
                 Err(refusal) => return Err(refusal.at(place)),
             }
         }

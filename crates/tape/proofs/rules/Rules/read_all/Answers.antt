@@ -13,15 +13,15 @@ loop-place-preserved g c =
     let tape = c.args.tape.now in
     let whole = take_rest tape p in
     let k = length-drop p tape in
-    let le : c.in-Ok.count ≤ length (drop p tape) = subst (λ bs. c.in-Ok.count ≤ length bs) whole c.in-Ok.ensures.there in
+    let le : c.in-Ok.taken ≤ length (drop p tape) = subst (λ bs. c.in-Ok.taken ≤ length bs) whole c.in-Ok.ensures.there in
     let lt : p < length tape = c.loop-place-test.true in
     record {
       within = omega arith;
       kept = g.E.Entries.lasts.chain c.args.on.now l.on c.step.new.on l.invariant.kept c.in-Ok.ensures.kept;
       reached = λ K row C T h.
           let rd = l.invariant.reached K row C T h in
-          reached_more M K c.args.self.now.facts row tape c.args.on.now l.on c.step.new.on l.stack c.step.new.stack p c.in-Ok.count rd lt c.in-Ok.ensures.some le
-          (subst (λ bs. Stepped M K c.args.self.now.facts rd.row bs l.on c.step.new.on c.step.new.stack (Ok c.in-Ok.count)) whole (c.in-Ok.ensures.stands K rd.row C T rd.holds));
+          reached_more M K c.args.self.now.facts row tape c.args.on.now l.on c.step.new.on l.stack c.step.new.stack p c.in-Ok.taken rd lt c.in-Ok.ensures.some le
+          (subst (λ bs. Stepped M K c.args.self.now.facts rd.row bs l.on c.step.new.on c.step.new.stack (Ok c.in-Ok.taken)) whole (c.in-Ok.ensures.stands K rd.row C T rd.holds));
     }
 
 pub returns-in-Err-clause-reads : goal.returns-in-Err-clause-reads
