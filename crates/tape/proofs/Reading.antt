@@ -136,7 +136,7 @@ module _ {S E : Type 0} (M : Model S E) (Also : Row → S → Type 0) (more : Ro
 pub holds_empty : {S E : Type 0} (M : Model S E) (K : Codes) (s : S) (st : Stack E) → st.entries.items ≡ [] → st.ended ≡ false → Holds M K s st []
 unfolding kinds values ended
 holds_empty {E = E} M K s st d e = record {
-  outline = ap (λ (es : List (Placed E)). map (λ p. p.kind) (reverse es)) d;
+  standing = ap (λ (es : List (Placed E)). map (λ p. p.kind) (reverse es)) d;
   over = e;
   meant = subst (λ (es : List (Placed E)). Meant M s (map (λ p. p.entry) (reverse es)) (values K [])) (sym d) (λ q. refl);
   sound = λ q. tt;

@@ -237,7 +237,7 @@ at_row : {S E : Type 0} (M : Model S E) (K : Codes) (R : EffectTables) → Table
 at_row M K R T n s st row bs h =
     checked_same K R T n _ _ bs
     ∙ ap (λ (b : Bool). checked K n b (kinds_on st) bs) h.over
-    ∙ ap (λ (ks : List Kind). checked K n (ended row) ks bs) h.outline
+    ∙ ap (λ (ks : List Kind). checked K n (ended row) ks bs) h.standing
 
 -- a step, from what the next command is
 stepped : {S E : Type 0} (M : Model S E) (K : Codes) (n : ℕ) (row : Row) (bs : List ℕ) (s t : S) (st : Stack E) (r : Result ℕ Refusal) (v : Result (Command × ℕ) Refusal) → own_command M K n s row bs ≡ v → Moved M K row s t v → r ≡ bytes_taken v → Holds M K t st (after row v) → Stepped M K n row bs s t st r
@@ -257,11 +257,11 @@ given : {S E : Type 0} (M : Model S E) (K : Codes) (R : EffectTables) → Tables
 given M K R T s t row x r p so g = subst (λ (f : ℕ → ℕ). Gives M (is_end x) s t f r) (made_same K R T row x p so) g
 
 holds_later : {S E : Type 0} (M : Model S E) (K : Codes) (s t : S) (st : Stack E) (row : Row) → Kept M s t → Holds M K s st row → Holds M K t st row
-holds_later M K s t st row k h = record { outline = h.outline; over = h.over; meant = meant_later M s t k (entries_on st) (values K row) h.meant; sound = h.sound }
+holds_later M K s t st row k h = record { standing = h.standing; over = h.over; meant = meant_later M s t k (entries_on st) (values K row) h.meant; sound = h.sound }
 
 holds_put : {S E : Type 0} (M : Model S E) (K : Codes) → Closed K → (s t : S) (st su : Stack E) (row : Row) (x : Command) (e : E) → Kept M s t → Passed K (kinds row) x → M.sense t e (λ q. result K (row ++ x ∷ []) q) → Put x e st su → Holds M K s st row → Holds M K t su (row ++ x ∷ [])
 holds_put {E = E} M K C s t st su row x e k p m u h = record {
-  outline = u.kinds ∙ ap (λ (ks : List Kind). leaves x ∷ drop (length (takes x)) ks) h.outline ∙ sym (kinds_more row x);
+  standing = u.kinds ∙ ap (λ (ks : List Kind). leaves x ∷ drop (length (takes x)) ks) h.standing ∙ sym (kinds_more row x);
   over = u.ended ∙ ap (λ (b : Bool). is_end x || b) h.over ∙ sym (ended_more row x);
   meant = subst (λ (es : List E). Meant M t es (values K (row ++ x ∷ []))) (sym u.entries) (
     m,

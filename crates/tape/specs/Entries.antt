@@ -130,7 +130,7 @@ Sound K (k ∷ ks) (v ∷ vs) = Fit K k v × Sound K ks vs
 
 -- a reader in state s with this stack has read the row
 pub record Holds {S E : Type 0} (M : Model S E) (K : Codes) (s : S) (st : Stack E) (row : Row) : Type 0 where
-  pub outline : kinds_on st ≡ kinds row
+  pub standing : kinds_on st ≡ kinds row
   pub over : st.ended ≡ ended row
   pub meant : Meant M s (entries_on st) (values K row)
   pub sound : (q : ℕ) → Sound K (kinds row) (values K row q)
