@@ -1,5 +1,5 @@
 // The tests that a command passes before it works on the stack, and the stack after it.
-ghost use Rattle.std.specs.Prelude.{◌≡◌, ℕ, ◌<◌, ◌≤◌, false, [], length, IfOk, OnOk, slice_get, slice_index_or};
+ghost use Rattle.std.specs.Prelude.{◌≡◌, ◌<◌, ◌≤◌, false, [], length, IfOk, OnOk, slice_get, slice_index_or};
 ghost use Rattle.tape.specs.Tape.{first_of, operand_tests, stack_tests, checked};
 ghost use Rattle.tape.specs.Entries.{of_tables, placed, kinds_on, entries_on, Within, Room, Put};
 

@@ -1,5 +1,5 @@
 // How bytes spell commands, and what a command is by itself.
-ghost use Rattle.std.specs.Prelude.{◌≡◌, ℕ, ◌^◌, ◌<◌, ◌≤◌, length, IfOk, nat_le};
+ghost use Rattle.std.specs.Prelude.{◌≡◌, ◌^◌, ◌<◌, ◌≤◌, length, IfOk, nat_le};
 ghost use Rattle.tape.specs.Tape.{decoded, takes, leaves as leaves_kind, is_end};
 
 use crate::command::{Command, Kind};

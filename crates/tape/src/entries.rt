@@ -1,11 +1,11 @@
 // The rules, over what an entry is for the reader that runs them.
-ghost use Rattle.std.specs.Prelude.{◌≡◌, ℕ, ◌+◌, ◌<◌, ◌≤◌, Bool, false, length, IfOk};
+ghost use Rattle.std.specs.Prelude.{ℕ, ◌<◌, ◌≤◌, false, length, IfOk};
 ghost use Rattle.effects.specs.Cells.{cell, Small};
 ghost use Rattle.effects.specs.Codes.{Codes as Algebra, Closed};
 ghost use Rattle.effects.specs.Tables.{bit, Tables};
 ghost use Rattle.tape.specs.Requests.{has, any as some, all as every};
 ghost use Rattle.tape.specs.Tape.{Row};
-ghost use Rattle.tape.specs.Entries.{Model, Lasts, Gives, Makes, Within, Holds, Stepped};
+ghost use Rattle.tape.specs.Entries.{Model, Lasts, Gives, Makes, Within};
 
 use crate::command::Command;
 use crate::refusal::{Refusal, RefusedAt};

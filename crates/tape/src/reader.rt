@@ -1,5 +1,5 @@
 // Direct reading: the rules at one request.
-ghost use Rattle.std.specs.Prelude.{◌≡◌, ℕ, ◌+◌, ◌<◌, ◌≤◌, length};
+ghost use Rattle.std.specs.Prelude.{◌≡◌};
 ghost use Rattle.effects.specs.Codes.{Codes as Algebra, Closed, codes};
 ghost use Rattle.effects.specs.Tables.{Tables};
 ghost use Rattle.tape.specs.Tape.{read_answer};
