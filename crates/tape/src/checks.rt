@@ -1,5 +1,5 @@
 // The tests that a command passes before it works on the stack, and the stack after it.
-ghost use Rattle.std.specs.Prelude.{◌≡◌, ◌<◌, ◌≤◌, false, [], length, IfOk, OnOk, slice_get, slice_index_or};
+ghost use Rattle.std.specs.Prelude.{◌≡◌, ◌<◌, ◌≤◌, false, [], length, IfOk, OnOk, OnSome, slice_get, slice_index_or};
 ghost use Rattle.tape.specs.Tape.{first_of, operand_tests, stack_tests, checked};
 ghost use Rattle.tape.specs.Entries.{of_tables, placed, kinds_on, entries_on, Within, Room, Put};
 
@@ -38,14 +38,16 @@ impl<T: Copy> Stack<T> {
 
     // What lies so many under the top.
     fn placed(&self, below: usize) -> Option<Placed<T>>
-        ensures { result ≡ slice_get (placed self.now) below }
+        ensures said { result ≡ slice_get (placed self.now) below }
+        ensures there { OnSome result (below < length self.now.entries.items) }
     {
         self.entries.iter().rev().nth(below).copied()
     }
 
     // Its kind.
     fn kind(&self, below: usize) -> Option<Kind>
-        ensures { result ≡ slice_get (kinds_on self.now) below }
+        ensures said { result ≡ slice_get (kinds_on self.now) below }
+        ensures there { OnSome result (below < length self.now.entries.items) }
     {
         Some(self.placed(below)?.kind)
     }
@@ -70,7 +72,8 @@ impl<T: Copy> Stack<T> {
                 if full => Err(Refusal::StackFull),
             (Command::Has(_) | Command::Any(_) | Command::All(_) | Command::State(_), _, _)
             | (Command::Not, Some(Kind::Condition), _)
-            | (Command::And | Command::Or, Some(Kind::Condition), Some(Kind::Condition))
+            | (Command::And, Some(Kind::Condition), Some(Kind::Condition))
+            | (Command::Or, Some(Kind::Condition), Some(Kind::Condition))
             | (Command::Scope, Some(Kind::Condition), Some(Kind::Policy))
             | (Command::Fail, Some(Kind::Condition), Some(Kind::Policy))
             | (Command::Join(_), Some(Kind::Policy), Some(Kind::Policy)) => Ok(()),

@@ -108,7 +108,6 @@ impl Rules<'_> {
     }
 
     // Reads a whole tape, up to the first command that is refused.
-    #[tactic(auto, using(crate::proofs::Reading::reached_none))]
     pub fn read_all<E: Entries>(
         &self,
         on: &mut E,

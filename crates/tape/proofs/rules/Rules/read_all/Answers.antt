@@ -2,8 +2,15 @@ use Rattle.std.proofs.Common.{◌<◌, ◌≤◌, length, drop, Ok, Err, sym, ap
 use Rattle.std.proofs.lemmas.List.{take_rest}
 use Rattle.std.proofs.lemmas.Bool.{cond-true, cond-false}
 use Rattle.tape.specs.Entries.{Stepped}
-use Rattle.tape.proofs.Reading.{reached_more, reached_refused, reached_end}
+use Rattle.tape.proofs.Reading.{reached_none, reached_more, reached_refused, reached_end}
 use Rattle.tape.proofs.rules.Rules.read_all.Goals as goal
+
+pub loop-place-init : goal.loop-place-init
+loop-place-init g c = record {
+  within = omega arith;
+  kept = g.E.Entries.lasts.same c.args.on.now;
+  reached = λ K row C T h. reached_none g.E.Entries.model K c.args.self.now.facts row c.args.tape.now c.args.on.now c.args.stack.now h;
+}
 
 pub loop-place-preserved : goal.loop-place-preserved
 loop-place-preserved g c =
@@ -23,6 +30,9 @@ loop-place-preserved g c =
           reached_more M K c.args.self.now.facts row tape c.args.on.now l.on c.step.new.on l.stack c.step.new.stack p c.in-Ok.taken rd lt c.in-Ok.ensures.some le
           (subst (λ bs. Stepped M K c.args.self.now.facts rd.row bs l.on c.step.new.on c.step.new.stack (Ok c.in-Ok.taken)) whole (c.in-Ok.ensures.stands K rd.row C T rd.holds));
     }
+
+pub returns-in-Err-clause-kept : goal.returns-in-Err-clause-kept
+returns-in-Err-clause-kept g c = g.E.Entries.lasts.chain c.args.on.now c.loop-place.on c.step.new.on c.loop-place.invariant.kept c.in-Err.ensures.kept
 
 pub returns-in-Err-clause-reads : goal.returns-in-Err-clause-reads
 returns-in-Err-clause-reads g c = λ K row C T h.
