@@ -1,4 +1,3 @@
-pub mod Down
-pub mod Checked
 pub mod Stepping
 pub mod Reading
+pub mod Tops

@@ -1,52 +1,34 @@
 -- One command: what the tests say under the algebra, and what the stack means after it.
 use Rattle.std.proofs.Common.{◌≡◌, ℕ, zero, suc, ◌<◌, ◌≤◌, Bool, true, false, cond, not, ◌&&◌, ◌||◌, eqb, leb, List, [], ◌∷◌, ◌++◌, length, get_or, drop, Ok, Err, Result, sym, refl, ap, ◌∙◌, subst, ⊎_elim, arith}
 use mathlib.Core.Path.{fun_ext}
-use Rattle.std.proofs.lemmas.Bool.{cond_both, eqb-true, and_parts, or_parts, leb-false, le-leb, false≢true, true≢false, cond-true, cond-false, cases_lt}
+use Rattle.std.proofs.lemmas.Bool.{cond_both, eqb-true, and_parts, or_parts, leb-false, le-leb, false≢true, cond-true, cond-false, cases_lt}
 use Rattle.effects.specs.Codes.{Codes, Closed}
 use Rattle.tape.specs.Requests.{has, any, all}
 use Rattle.tape.specs.Tape.{Row, same_kind, takes, leaves, Reader, stack, of_kinds, means, at_request, values, result, kinds, is_end, ended, decoded, fits, undeclared, unstatable, no_combiner, Tests, first_of, operand_tests, stack_tests, bind, then, checked, next_command, after, bytes_taken}
 use Rattle.effects.specs.Tables.{Tables, bit}
-use Rattle.tape.specs.Entries.{Model, Gives, of_tables, tabled, down, Meant, Put, Fit, Sound, Holds, own_tests, own_command, Moved, Stepped}
+use Rattle.tape.specs.Entries.{Model, Gives, of_tables, tabled, kinds_on, entries_on, Meant, Put, Fit, Sound, Holds, own_tests, own_command, Moved, Stepped}
 use Rattle.tape.specs.declared.command.Command.{Command}
 use Rattle.tape.specs.declared.command.Command.TheVariants.{Has, Any, All, Not, And, Or, State, Scope, Fail, Join, End}
 use Rattle.tape.specs.declared.command.Kind.{Kind}
 use Rattle.tape.specs.declared.command.Kind.TheVariants.{Condition, Policy}
 use Rattle.tape.specs.declared.refusal.Refusal.{Refusal}
-use Rattle.tape.specs.declared.refusal.Refusal.TheVariants.{UndeclaredFact, NotStatable, NoCombiner, WrongEntry, StackFull, WrongEnd, AfterEnd, NoSlot}
+use Rattle.tape.specs.declared.refusal.Refusal.TheVariants.{UndeclaredFact, NotStatable, NoCombiner, AfterEnd, NoSlot}
 use Rattle.effects.specs.declared.tables.EffectTables.{EffectTables}
 use Rattle.tape.specs.declared.stack.Stack.{Stack}
 
 -- the tests under the rules are those under the algebra
 stated_same : (K : Codes) (R : EffectTables) → Tables K R → (x : Command) → unstatable (of_tables R) x ≡ unstatable K x
-stated_same K R T (Has f) = refl
-stated_same K R T (Any m) = refl
-stated_same K R T (All m) = refl
-stated_same K R T Not = refl
-stated_same K R T And = refl
-stated_same K R T Or = refl
 stated_same K R T (State e) =
     ap (λ (n : ℕ). leb n e || not (get_or R.statable e false)) T.counted
     ∙ ⊎_elim
     (λ l. ap (λ (b : Bool). leb K.count e || not b) (T.stated e l))
     (λ g. let t : leb K.count e ≡ true = le-leb K.count e g in ap (λ (b : Bool). b || not (get_or R.statable e false)) t ∙ sym (ap (λ (b : Bool). b || not (K.statable e)) t))
     (cases_lt e K.count)
-stated_same K R T Scope = refl
-stated_same K R T Fail = refl
-stated_same K R T (Join k) = refl
-stated_same K R T End = refl
+stated_same K R T x = refl
 
 combined_same : (K : Codes) (R : EffectTables) → Tables K R → (x : Command) → no_combiner (of_tables R) x ≡ no_combiner K x
-combined_same K R T (Has f) = refl
-combined_same K R T (Any m) = refl
-combined_same K R T (All m) = refl
-combined_same K R T Not = refl
-combined_same K R T And = refl
-combined_same K R T Or = refl
-combined_same K R T (State e) = refl
-combined_same K R T Scope = refl
-combined_same K R T Fail = refl
 combined_same K R T (Join k) = ap (λ (n : ℕ). leb n k) T.combiners
-combined_same K R T End = refl
+combined_same K R T x = refl
 
 abbrev tests : Codes → ℕ → List Kind → Command × ℕ → Result (Command × ℕ) Refusal
 tests K n ks d = then (first_of (operand_tests K n d.0) (tt {0})) (then (first_of (stack_tests ks d.0) (tt {0})) (Ok d))
@@ -72,84 +54,77 @@ pub record Passed (K : Codes) (ks : List Kind) (x : Command) : Type 0 where
   -- END finds one entry
   pub alone : is_end x ≡ true → length ks ≡ 1
 
-never : {A B : Type 0} (e : Refusal) (a : A) → ◌≡◌ {A = Result A Refusal} (Err e) (Ok a) → B
-never e a p = let z : ◌≡◌ {A = ℕ} 0 1 = cc in absurd (omega arith)
+-- no test holds
+abbrev Clear : Tests → Type 0
+Clear [] = Unit {0}
+Clear (t ∷ ts) = (t.0 ≡ false) × Clear ts
+
+clear : {A : Type 0} (ts : Tests) (a b : A) → first_of ts a ≡ Ok b → Clear ts × (a ≡ b)
+clear [] a b p = (tt, cc)
+clear ((true, e) ∷ ts) a b p = absurd cc
+clear ((false, e) ∷ ts) a b p = let r = clear ts a b p in ((refl, r.0), r.1)
 
 inv_then : {A : Type 0} (v : Result (Unit {0}) Refusal) (w : Result A Refusal) (d : A) → then v w ≡ Ok d → (v ≡ Ok tt) × (w ≡ Ok d)
 inv_then (Ok u) w d p = (refl, p)
-inv_then (Err e) w d p = never e d p
+inv_then (Err e) w d p = absurd cc
 
 inv_bind : {A B : Type 0} (v : Result A Refusal) (k : A → Result B Refusal) (d : B) → bind v k ≡ Ok d → (a : A) × (k a ≡ Ok d)
 inv_bind (Ok a) k d p = (a, p)
-inv_bind (Err e) k d p = never e d p
+inv_bind (Err e) k d p = absurd cc
 
-pub inv_cond : {A : Type 0} (b : Bool) (e : Refusal) (w : Result A Refusal) (d : A) → cond b (Err e) w ≡ Ok d → (b ≡ false) × (w ≡ Ok d)
-inv_cond true e w d p = never e d p
-inv_cond false e w d p = (refl, p)
+fitted_of : (end fit one : Bool) → (not end && not fit) ≡ false → (end && not (one && fit)) ≡ false → fit ≡ true
+fitted_of end true one p q = refl
+fitted_of false false one p q = absurd cc
+fitted_of true false true p q = absurd cc
+fitted_of true false false p q = absurd cc
 
-fitted_of : (ks : List Kind) (x : Command) → (not (is_end x) && not (fits (takes x) ks)) ≡ false → (is_end x && not (eqb (length ks) 1 && fits (takes x) ks)) ≡ false → fits (takes x) ks ≡ true
-fitted_of ks x p q = by (is_end x) (fits (takes x) ks) (eqb (length ks) 1) p q
-  where
-    by : (a f l : Bool) → (not a && not f) ≡ false → (a && not (l && f)) ≡ false → f ≡ true
-    by a true l p q = refl
-    by false false l p q = absurd (true≢false p)
-    by true false true p q = absurd (true≢false q)
-    by true false false p q = absurd (true≢false q)
-
-alone_of : (ks : List Kind) (x : Command) → (is_end x && not (eqb (length ks) 1 && fits (takes x) ks)) ≡ false → is_end x ≡ true → length ks ≡ 1
-alone_of ks x p e = by (is_end x) (eqb (length ks) 1) (fits (takes x) ks) refl p e
-  where
-    by : (a b f : Bool) → eqb (length ks) 1 ≡ b → (a && not (b && f)) ≡ false → a ≡ true → length ks ≡ 1
-    by true true f q p e = eqb-true (length ks) 1 q
-    by true false f q p e = absurd (true≢false p)
-    by false b f q p e = absurd (false≢true e)
+alone_of : (end fit one : Bool) → (end && not (one && fit)) ≡ false → end ≡ true → one ≡ true
+alone_of true fit true q e = refl
+alone_of true fit false q e = absurd cc
+alone_of false fit one q e = absurd cc
 
 -- it has also no undeclared fact, and stands before END
 pub passed : (K : Codes) (n : ℕ) (over : Bool) (ks : List Kind) (bs : List ℕ) (d : Command × ℕ) → checked K n over ks bs ≡ Ok d → Passed K ks d.0 × (undeclared n d.0 ≡ false) × (over ≡ false)
 unfolding checked
-passed K n over ks bs d p =
-    let a = inv_cond over AfterEnd (bind (decoded bs) (tests K n ks)) d p in
-    let b = inv_bind (decoded bs) (tests K n ks) d a.1 in
+passed K n true ks bs d p = absurd cc
+passed K n false ks bs d p =
+    let b = inv_bind (decoded bs) (tests K n ks) d p in
     let x = b.0.0 in
     let c = inv_then (first_of (operand_tests K n x) (tt {0})) (then (first_of (stack_tests ks x) (tt {0})) (Ok b.0)) d b.1 in
-    let o1 = inv_cond (undeclared n x) UndeclaredFact _ tt c.0 in
-    let o2 = inv_cond (unstatable K x) NotStatable _ tt o1.1 in
-    let o3 = inv_cond (no_combiner K x) NoCombiner _ tt o2.1 in
     let e = inv_then (first_of (stack_tests ks x) (tt {0})) (Ok b.0) d c.1 in
-    let s1 = inv_cond (not (is_end x) && not (fits (takes x) ks)) WrongEntry _ tt e.0 in
-    let s2 = inv_cond (eqb (length (takes x)) 0 && leb 32 (length ks)) StackFull _ tt s1.1 in
-    let s3 = inv_cond (is_end x && not (eqb (length ks) 1 && fits (takes x) ks)) WrongEnd _ tt s2.1 in
-    let same : b.0 ≡ d = ok_same b.0 d e.1 in
-    (subst (λ (y : Command × ℕ). Passed K ks y.0) same (record { stated = o2.0; combiner = o3.0; fitted = fitted_of ks x s1.0 s3.0; alone = alone_of ks x s3.0 }), subst (λ (y : Command × ℕ). undeclared n y.0 ≡ false) same o1.0, a.0)
-  where
-    ok_same : (x y : Command × ℕ) → ◌≡◌ {A = Result (Command × ℕ) Refusal} (Ok x) (Ok y) → x ≡ y
-    ok_same x y p = cc
+    let o = (clear (operand_tests K n x) tt tt c.0).0 in
+    let s = (clear (stack_tests ks x) tt tt e.0).0 in
+    let same : b.0 ≡ d = cc in
+    (subst (λ (y : Command × ℕ). Passed K ks y.0) same (record { stated = o.1.0; combiner = o.1.1.0; fitted = fitted_of _ _ _ s.0 s.1.1.0; alone = λ q. eqb-true (length ks) 1 (alone_of _ _ _ s.1.1.0 q) }), subst (λ (y : Command × ℕ). undeclared n y.0 ≡ false) same o.0, refl)
 
 -- the entries that a command takes mean what they should
-abbrev Tops : Codes → List Kind → List ℕ → Type 0
-Tops K [] vs = Unit {0}
-Tops K (w ∷ ws) vs = Fit K w (get_or vs 0 0) × Tops K ws (drop 1 vs)
+abbrev Tops : Codes → List Kind → List ℕ → ℕ → Type 0
+Tops K [] vs i = Unit {0}
+Tops K (w ∷ ws) vs i = Fit K w (get_or vs i 0) × Tops K ws vs (suc i)
+
+tops_under : (K : Codes) (ws : List Kind) (v : ℕ) (vs : List ℕ) (i : ℕ) → Tops K ws vs i → Tops K ws (v ∷ vs) (suc i)
+tops_under K [] v vs i t = tt
+tops_under K (w ∷ ws) v vs i t = (t.0, tops_under K ws v vs (suc i) t.1)
 
 same : (K : Codes) (w k : Kind) (v : ℕ) → same_kind w k ≡ true → Fit K k v → Fit K w v
 same K Condition Condition v e h = h
-same K Condition Policy v e h = absurd (false≢true e)
-same K Policy Condition v e h = absurd (false≢true e)
 same K Policy Policy v e h = h
+same K _ _ v e h = absurd (false≢true e)
 
-taken : (K : Codes) (ws ks : List Kind) (vs : List ℕ) → fits ws ks ≡ true → Sound K ks vs → Tops K ws vs × Sound K (drop (length ws) ks) (drop (length ws) vs)
+taken : (K : Codes) (ws ks : List Kind) (vs : List ℕ) → fits ws ks ≡ true → Sound K ks vs → Tops K ws vs 0 × Sound K (drop (length ws) ks) (drop (length ws) vs)
 taken K [] ks vs e s = (tt, s)
 taken K (w ∷ ws) [] vs e s = absurd (false≢true e)
 taken K (w ∷ ws) (k ∷ ks) [] e s = absurd s
 taken K (w ∷ ws) (k ∷ ks) (v ∷ vs) e s =
     let b = and_parts (same_kind w k) (fits ws ks) e in
     let t = taken K ws ks vs b.1 s.1 in
-    ((same K w k v b.0 s.0, t.0), t.1)
+    ((same K w k v b.0 s.0, tops_under K ws v vs 0 t.0), t.1)
 
 small_bit : (b : Bool) → bit b ≤ 1
 small_bit true = omega arith
 small_bit false = omega arith
 
-makes_sound : (K : Codes) → Closed K → (r : ℕ) (x : Command) (vs : List ℕ) → unstatable K x ≡ false → Tops K (takes x) vs → Fit K (leaves x) (means K r x (get_or vs 0 0) (get_or vs 1 0))
+makes_sound : (K : Codes) → Closed K → (r : ℕ) (x : Command) (vs : List ℕ) → unstatable K x ≡ false → Tops K (takes x) vs 0 → Fit K (leaves x) (means K r x (get_or vs 0 0) (get_or vs 1 0))
 makes_sound K C r (Has f) vs u t = small_bit (has f r)
 makes_sound K C r (Any m) vs u t = small_bit (any m r)
 makes_sound K C r (All m) vs u t = small_bit (all m r)
@@ -157,32 +132,20 @@ makes_sound K C r Not vs u t = omega arith
 makes_sound K C r And vs u t = small_bit _
 makes_sound K C r Or vs u t = small_bit _
 makes_sound K C r (State e) vs u t = leb-false K.count e (or_parts _ _ u).0
-makes_sound K C r Scope [] u t = C.not_applicable_below
-makes_sound K C r Scope (v ∷ vs) u t = cond_both (eqb v 1) _ _ (λ n. n < K.count) (λ _. t.1.0) (λ _. C.not_applicable_below)
-makes_sound K C r Fail [] u t = t.1.0
-makes_sound K C r Fail (v ∷ vs) u t = cond_both (eqb v 1) _ _ (λ n. n < K.count) (λ _. C.failed_below _ t.1.0) (λ _. t.1.0)
-makes_sound K C r (Join k) [] u t = C.combined_below k _ _ t.1.0 t.0
-makes_sound K C r (Join k) (v ∷ vs) u t = C.combined_below k _ _ t.1.0 t.0
+makes_sound K C r Scope vs u t = cond_both (eqb (get_or vs 0 0) 1) _ _ (λ n. n < K.count) (λ _. t.1.0) (λ _. C.not_applicable_below)
+makes_sound K C r Fail vs u t = cond_both (eqb (get_or vs 0 0) 1) _ _ (λ n. n < K.count) (λ _. C.failed_below _ t.1.0) (λ _. t.1.0)
+makes_sound K C r (Join k) vs u t = C.combined_below k _ _ t.1.0 t.0
 makes_sound K C r End vs u t = t.0
 
 -- and what the rules make of them is what the algebra makes of them
-tabled_means : (K : Codes) (R : EffectTables) → Tables K R → (r : ℕ) (x : Command) (vs : List ℕ) → no_combiner K x ≡ false → Tops K (takes x) vs → tabled R r x (get_or vs 0 0) (get_or vs 1 0) ≡ means K r x (get_or vs 0 0) (get_or vs 1 0)
-tabled_means K R T r (Has f) vs u t = refl
-tabled_means K R T r (Any m) vs u t = refl
-tabled_means K R T r (All m) vs u t = refl
-tabled_means K R T r Not vs u t = T.negated (get_or vs 0 0) t.0
-tabled_means K R T r And [] u t = T.both 0 0 t.1.0 t.0
-tabled_means K R T r And (v ∷ vs) u t = T.both (get_or vs 0 0) v t.1.0 t.0
-tabled_means K R T r Or [] u t = T.either 0 0 t.1.0 t.0
-tabled_means K R T r Or (v ∷ vs) u t = T.either (get_or vs 0 0) v t.1.0 t.0
-tabled_means K R T r (State e) vs u t = refl
-tabled_means K R T r Scope [] u t = T.scope 0 0 t.1.0 t.0
-tabled_means K R T r Scope (v ∷ vs) u t = T.scope (get_or vs 0 0) v t.1.0 t.0
-tabled_means K R T r Fail [] u t = T.fail 0 0 t.1.0 t.0
-tabled_means K R T r Fail (v ∷ vs) u t = T.fail (get_or vs 0 0) v t.1.0 t.0
-tabled_means K R T r (Join k) [] u t = T.combine k 0 0 (leb-false K.combiners k u) t.1.0 t.0
-tabled_means K R T r (Join k) (v ∷ vs) u t = T.combine k (get_or vs 0 0) v (leb-false K.combiners k u) t.1.0 t.0
-tabled_means K R T r End vs u t = refl
+tabled_means : (K : Codes) (R : EffectTables) → Tables K R → (r : ℕ) (x : Command) (vs : List ℕ) → no_combiner K x ≡ false → Tops K (takes x) vs 0 → tabled R r x (get_or vs 0 0) (get_or vs 1 0) ≡ means K r x (get_or vs 0 0) (get_or vs 1 0)
+tabled_means K R T r Not vs u t = T.negated _ t.0
+tabled_means K R T r And vs u t = T.both _ _ t.1.0 t.0
+tabled_means K R T r Or vs u t = T.either _ _ t.1.0 t.0
+tabled_means K R T r Scope vs u t = T.scope _ _ t.1.0 t.0
+tabled_means K R T r Fail vs u t = T.fail _ _ t.1.0 t.0
+tabled_means K R T r (Join k) vs u t = T.combine k _ _ (leb-false K.combiners k u) t.1.0 t.0
+tabled_means K R T r x vs u t = refl
 
 stack_more : {V : Type 0} (R : Reader V) (vs : List V) (row : Row) (x : Command) → stack R vs (row ++ x ∷ []) ≡ R.makes x (get_or (stack R vs row) 0 R.none) (get_or (stack R vs row) 1 R.none) ∷ drop (length (takes x)) (stack R vs row)
 stack_more R vs [] x = refl
@@ -241,9 +204,9 @@ meant_at M s z b (e ∷ es) F zero m = m.0
 meant_at M s z b (e ∷ es) F (suc i) m = subst (M.sense s (get_or es i z)) (fun_ext (λ q. get_or_one i (F q))) (meant_at M s z b es (λ q. drop 1 (F q)) i m.1)
 
 -- an entry that a stack holds, by its place under the top
-pub held_at : {S E : Type 0} (M : Model S E) (K : Codes) (s : S) (st : Stack E) (row : Row) (z e : E) (i : ℕ) → M.sense s z (λ _. 0) → Holds M K s st row → e ≡ get_or (down z st.entries st.outline.depth) i z → M.sense s e (λ q. get_or (values K row q) i 0)
+pub held_at : {S E : Type 0} (M : Model S E) (K : Codes) (s : S) (st : Stack E) (row : Row) (z e : E) (i : ℕ) → M.sense s z (λ _. 0) → Holds M K s st row → e ≡ get_or (entries_on st) i z → M.sense s e (λ q. get_or (values K row q) i 0)
 held_at {E = E} M K s st row z e i b h p =
-    subst (λ (x : E). M.sense s x (λ q. get_or (values K row q) i 0)) (sym p) (meant_at M s z b (down z st.entries st.outline.depth) (values K row) i (h.meant z))
+    subst (λ (x : E). M.sense s x (λ q. get_or (values K row q) i 0)) (sym p) (meant_at M s z b (entries_on st) (values K row) i h.meant)
 
 -- what the tables make of a command after a row
 abbrev by_tables : Codes → EffectTables → Row → Command → ℕ → ℕ
@@ -268,13 +231,13 @@ next_err K n more row bs e p = ap (λ (v : Result (Command × ℕ) Refusal). bin
 
 -- the check at the stack is the check at the row
 abbrev At : {E : Type 0} → EffectTables → ℕ → Stack E → List ℕ → Result (Command × ℕ) Refusal
-At R n st bs = checked (of_tables R) n st.outline.ended (down Condition st.outline.kinds st.outline.depth) bs
+At R n st bs = checked (of_tables R) n st.ended (kinds_on st) bs
 
 at_row : {S E : Type 0} (M : Model S E) (K : Codes) (R : EffectTables) → Tables K R → (n : ℕ) (s : S) (st : Stack E) (row : Row) (bs : List ℕ) → Holds M K s st row → At R n st bs ≡ checked K n (ended row) (kinds row) bs
 at_row M K R T n s st row bs h =
     checked_same K R T n _ _ bs
-    ∙ ap (λ (b : Bool). checked K n b (down Condition st.outline.kinds st.outline.depth) bs) h.over
-    ∙ ap (λ (ks : List Kind). checked K n (ended row) ks bs) h.outline
+    ∙ ap (λ (b : Bool). checked K n b (kinds_on st) bs) h.over
+    ∙ ap (λ (ks : List Kind). checked K n (ended row) ks bs) h.standing
 
 -- a step, from what the next command is
 stepped : {S E : Type 0} (M : Model S E) (K : Codes) (n : ℕ) (row : Row) (bs : List ℕ) (s t : S) (st : Stack E) (r : Result ℕ Refusal) (v : Result (Command × ℕ) Refusal) → own_command M K n s row bs ≡ v → Moved M K row s t v → r ≡ bytes_taken v → Holds M K t st (after row v) → Stepped M K n row bs s t st r
@@ -294,16 +257,16 @@ given : {S E : Type 0} (M : Model S E) (K : Codes) (R : EffectTables) → Tables
 given M K R T s t row x r p so g = subst (λ (f : ℕ → ℕ). Gives M (is_end x) s t f r) (made_same K R T row x p so) g
 
 holds_later : {S E : Type 0} (M : Model S E) (K : Codes) (s t : S) (st : Stack E) (row : Row) → Kept M s t → Holds M K s st row → Holds M K t st row
-holds_later M K s t st row k h = record { outline = h.outline; over = h.over; meant = λ z. meant_later M s t k (down z st.entries st.outline.depth) (values K row) (h.meant z); sound = h.sound }
+holds_later M K s t st row k h = record { standing = h.standing; over = h.over; meant = meant_later M s t k (entries_on st) (values K row) h.meant; sound = h.sound }
 
 holds_put : {S E : Type 0} (M : Model S E) (K : Codes) → Closed K → (s t : S) (st su : Stack E) (row : Row) (x : Command) (e : E) → Kept M s t → Passed K (kinds row) x → M.sense t e (λ q. result K (row ++ x ∷ []) q) → Put x e st su → Holds M K s st row → Holds M K t su (row ++ x ∷ [])
 holds_put {E = E} M K C s t st su row x e k p m u h = record {
-  outline = u.kinds ∙ ap (λ (ks : List Kind). leaves x ∷ drop (length (takes x)) ks) h.outline ∙ sym (kinds_more row x);
+  standing = u.kinds ∙ ap (λ (ks : List Kind). leaves x ∷ drop (length (takes x)) ks) h.standing ∙ sym (kinds_more row x);
   over = u.ended ∙ ap (λ (b : Bool). is_end x || b) h.over ∙ sym (ended_more row x);
-  meant = λ z. subst (λ (es : List E). Meant M t es (values K (row ++ x ∷ []))) (sym (u.entries z)) (
+  meant = subst (λ (es : List E). Meant M t es (values K (row ++ x ∷ []))) (sym u.entries) (
     m,
-    subst (Meant M t (drop (length (takes x)) (down z st.entries st.outline.depth))) (tail_more K row x)
-        (meant_drop M t (length (takes x)) (down z st.entries st.outline.depth) (values K row) (meant_later M s t k (down z st.entries st.outline.depth) (values K row) (h.meant z))),
+    subst (Meant M t (drop (length (takes x)) (entries_on st))) (tail_more K row x)
+        (meant_drop M t (length (takes x)) (entries_on st) (values K row) (meant_later M s t k (entries_on st) (values K row) h.meant)),
   );
   sound = λ q. sound_more K C q row x (h.sound q) p.fitted p.stated;
 }

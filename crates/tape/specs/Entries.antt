@@ -1,9 +1,10 @@
 -- What an entry is for the reader that runs the rules.
-use Rattle.std.specs.Prelude.{◌≡◌, ℕ, zero, suc, ◌+◌, ◌<◌, ◌≤◌, Bool, true, false, not, ◌&&◌, ◌||◌, List, [], ◌∷◌, ◌++◌, length, drop, Ok, Err, Result, slice_index, slice_index_or}
+use Rattle.std.specs.Prelude.{◌≡◌, ℕ, zero, suc, ◌+◌, ◌<◌, ◌≤◌, Bool, true, false, cond, not, ◌&&◌, ◌||◌, List, [], ◌∷◌, ◌++◌, length, drop, map, reverse, Ok, Err, Result, slice_index, slice_index_or}
 use Rattle.effects.specs.Cells.{cell}
 use Rattle.effects.specs.Codes.{Codes}
 use Rattle.effects.specs.Tables.{bit}
 use Rattle.effects.specs.declared.tables.EffectTables.{EffectTables}
+use Rattle.tape.specs.Refusals.{at_place}
 use Rattle.tape.specs.Requests.{has, any, all}
 use Rattle.tape.specs.Tape.{Row, kinds, values, ended, takes, leaves, is_end, Tests, result, next_command, after, bytes_taken}
 use Rattle.tape.specs.declared.command.Command.{Command}
@@ -11,7 +12,9 @@ use Rattle.tape.specs.declared.command.Command.TheVariants.{Has, Any, All, Not, 
 use Rattle.tape.specs.declared.command.Kind.{Kind}
 use Rattle.tape.specs.declared.command.Kind.TheVariants.{Condition, Policy}
 use Rattle.tape.specs.declared.refusal.Refusal.{Refusal}
-use Rattle.tape.specs.declared.refusal.Refusal.TheVariants.{NoSlot}
+use Rattle.tape.specs.declared.refusal.Refusal.TheVariants.{NoSlot, NoEnd}
+use Rattle.tape.specs.declared.refusal.RefusedAt.{RefusedAt}
+use Rattle.tape.specs.declared.stack.Placed.{Placed}
 use Rattle.tape.specs.declared.stack.Stack.{Stack}
 
 -- what entries E mean in the states S of a reader
@@ -78,10 +81,17 @@ abbrev pub Makes : {S E : Type 0} → Model S E → EffectTables → S → E →
 Makes M tables s top under t r x =
     (f g : ℕ → ℕ) → M.sense s top f → M.sense s under g → Gives M (is_end x) s t (λ q. tabled tables q x (f q) (g q)) r
 
--- the first d of a list, the last of them first
-abbrev pub down : {A : Type 0} → A → List A → ℕ → List A
-down z xs zero = []
-down z xs (suc d) = slice_index_or xs d z ∷ down z xs d
+-- what is on a stack, the top first
+abbrev pub placed : {E : Type 0} → Stack E → List (Placed E)
+placed st = reverse st.entries.items
+
+-- the kinds of the entries, the top first
+abbrev pub kinds_on : {E : Type 0} → Stack E → List Kind
+kinds_on st = map (λ p. p.kind) (placed st)
+
+-- the entries, the top first
+abbrev pub entries_on : {E : Type 0} → Stack E → List E
+entries_on st = map (λ p. p.entry) (placed st)
 
 -- entries that mean these values at each request, the top first
 abbrev pub Meant : {S E : Type 0} → Model S E → S → List E → (ℕ → List ℕ) → Type 0
@@ -91,16 +101,9 @@ Meant M s (e ∷ es) F = M.sense s e (λ q. slice_index (F q) 0) × Meant M s es
 -- a command whose operand is within its limit: 32 facts, 16 codes, 4 combiners
 abbrev pub Within : Command → Type 0
 Within (Has f) = f < 32
-Within (Any m) = Unit {0}
-Within (All m) = Unit {0}
-Within Not = Unit {0}
-Within And = Unit {0}
-Within Or = Unit {0}
 Within (State e) = e < 16
-Within Scope = Unit {0}
-Within Fail = Unit {0}
 Within (Join k) = k < 4
-Within End = Unit {0}
+Within _ = Unit {0}
 
 -- there is room for a command: what it takes is there, and what it leaves fits
 pub record Room (x : Command) (depth : ℕ) : Type 0 where
@@ -109,9 +112,9 @@ pub record Room (x : Command) (depth : ℕ) : Type 0 where
 
 -- a command's entry put on the stack
 pub record Put {E : Type 0} (x : Command) (e : E) (s t : Stack E) : Type 0 where
-  pub kinds : down Condition t.outline.kinds t.outline.depth ≡ leaves x ∷ drop (length (takes x)) (down Condition s.outline.kinds s.outline.depth)
-  pub entries : (z : E) → down z t.entries t.outline.depth ≡ e ∷ drop (length (takes x)) (down z s.entries s.outline.depth)
-  pub ended : t.outline.ended ≡ (is_end x || s.outline.ended)
+  pub kinds : kinds_on t ≡ leaves x ∷ drop (length (takes x)) (kinds_on s)
+  pub entries : entries_on t ≡ e ∷ drop (length (takes x)) (entries_on s)
+  pub ended : t.ended ≡ (is_end x || s.ended)
 
 -- a value that fits its entry's kind: a condition is 0 or 1, and a policy a code below the count
 abbrev pub Fit : Codes → Kind → ℕ → Type 0
@@ -127,9 +130,9 @@ Sound K (k ∷ ks) (v ∷ vs) = Fit K k v × Sound K ks vs
 
 -- a reader in state s with this stack has read the row
 pub record Holds {S E : Type 0} (M : Model S E) (K : Codes) (s : S) (st : Stack E) (row : Row) : Type 0 where
-  pub outline : down Condition st.outline.kinds st.outline.depth ≡ kinds row
-  pub over : st.outline.ended ≡ ended row
-  pub meant : (z : E) → Meant M s (down z st.entries st.outline.depth) (values K row)
+  pub standing : kinds_on st ≡ kinds row
+  pub over : st.ended ≡ ended row
+  pub meant : Meant M s (entries_on st) (values K row)
   pub sound : (q : ℕ) → Sound K (kinds row) (values K row q)
 
 -- the reader's own test: it is full for the command's result
@@ -150,3 +153,15 @@ pub record Stepped {S E : Type 0} (M : Model S E) (K : Codes) (n : ℕ) (row : R
   pub moved : Moved M K row s t (own_command M K n s row bs)
   pub answer : r ≡ bytes_taken (own_command M K n s row bs)
   pub holds : Holds M K t st (after row (own_command M K n s row bs))
+
+-- a whole tape read command by command, from a row and a place on: what the reader does at the next command, as long as one
+-- is accepted, or its refusal, or the end. Every command takes a byte, so a tape's length is fuel enough
+abbrev pub Reads : {S E : Type 0} → Model S E → Codes → ℕ → ℕ → Row → ℕ → List ℕ → S → S → Stack E → Result (Unit {0}) RefusedAt → Type 0
+Reads M K n fuel row place [] s t st r = (s ≡ t) × Holds M K t st row × (r ≡ cond (ended row) (Ok tt) (Err (at_place NoEnd place)))
+Reads M K n zero row place (b ∷ bs) s t st r = ⊥
+Reads {S} {E} M K n (suc fuel) row place (b ∷ bs) s t st r =
+    elim (own_command M K n s row (b ∷ bs)) [
+      | Err e ↦ M.stays s t × Holds M K t st row × (r ≡ Err (at_place e place))
+      | Ok d ↦ (u : S) × (su : Stack E) × Moves M (is_end d.0) s (λ q. result K (row ++ d.0 ∷ []) q) u × Holds M K u su (row ++ d.0 ∷ [])
+          × Reads M K n fuel (row ++ d.0 ∷ []) (place + d.1) (drop d.1 (b ∷ bs)) u t st r
+    ]

@@ -19,9 +19,8 @@ Row = List Command
 -- two kinds are one
 abbrev pub same_kind : Kind → Kind → Bool
 same_kind Condition Condition = true
-same_kind Condition Policy = false
-same_kind Policy Condition = false
 same_kind Policy Policy = true
+same_kind _ _ = false
 
 -- the entries that a command takes, the top one first
 abbrev pub takes : Command → List Kind
@@ -97,17 +96,8 @@ kinds row = stack of_kinds [] row
 
 -- the command is END
 abbrev pub is_end : Command → Bool
-is_end (Has f) = false
-is_end (Any m) = false
-is_end (All m) = false
-is_end Not = false
-is_end And = false
-is_end Or = false
-is_end (State e) = false
-is_end Scope = false
-is_end Fail = false
-is_end (Join k) = false
 is_end End = true
+is_end _ = false
 
 -- END is in the row
 unfoldable pub ended : Row → Bool
@@ -150,42 +140,17 @@ abbrev pub undeclared : ℕ → Command → Bool
 undeclared n (Has f) = nat_le n f
 undeclared n (Any m) = nat_le (2 ^ n) m
 undeclared n (All m) = nat_le (2 ^ n) m
-undeclared n Not = false
-undeclared n And = false
-undeclared n Or = false
-undeclared n (State e) = false
-undeclared n Scope = false
-undeclared n Fail = false
-undeclared n (Join k) = false
-undeclared n End = false
+undeclared n _ = false
 
 -- an effect in the operand that may not be stated
 abbrev pub unstatable : Codes → Command → Bool
-unstatable K (Has f) = false
-unstatable K (Any m) = false
-unstatable K (All m) = false
-unstatable K Not = false
-unstatable K And = false
-unstatable K Or = false
 unstatable K (State e) = nat_le K.count e || not (K.statable e)
-unstatable K Scope = false
-unstatable K Fail = false
-unstatable K (Join k) = false
-unstatable K End = false
+unstatable K _ = false
 
 -- a combiner in the operand that the algebra lacks
 abbrev pub no_combiner : Codes → Command → Bool
-no_combiner K (Has f) = false
-no_combiner K (Any m) = false
-no_combiner K (All m) = false
-no_combiner K Not = false
-no_combiner K And = false
-no_combiner K Or = false
-no_combiner K (State e) = false
-no_combiner K Scope = false
-no_combiner K Fail = false
 no_combiner K (Join k) = nat_le K.combiners k
-no_combiner K End = false
+no_combiner K _ = false
 
 -- tests, each with its refusal, in the order in which they are made
 abbrev pub Tests : Type 0

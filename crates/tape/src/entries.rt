@@ -1,14 +1,15 @@
 // The rules, over what an entry is for the reader that runs them.
-ghost use Rattle.std.specs.Prelude.{◌≡◌, ℕ, ◌+◌, ◌<◌, ◌≤◌, Bool, false, length, IfOk};
+ghost use Rattle.std.specs.Prelude.{ℕ, ◌<◌, ◌≤◌, false, length, IfOk};
 ghost use Rattle.effects.specs.Cells.{cell, Small};
 ghost use Rattle.effects.specs.Codes.{Codes as Algebra, Closed};
 ghost use Rattle.effects.specs.Tables.{bit, Tables};
 ghost use Rattle.tape.specs.Requests.{has, any as some, all as every};
 ghost use Rattle.tape.specs.Tape.{Row};
-ghost use Rattle.tape.specs.Entries.{Model, Lasts, Gives, Makes, Within, Holds, Stepped};
+ghost use Rattle.tape.specs.Entries.{Model, Lasts, Gives, Makes, Within};
 
 use crate::command::Command;
-use crate::refusal::Refusal;
+use crate::refusal::{Refusal, RefusedAt};
+use crate::rules::Rules;
 use crate::stack::Stack;
 use effects::EffectTables;
 
@@ -82,24 +83,50 @@ fn make<E: Entries>(
     }
 }
 
-// Reads the command at the start of the bytes: how many bytes it takes, or why it is refused.
-pub fn step<E: Entries>(
-    on: &mut E,
-    stack: &mut Stack<E::Entry>,
-    tables: &EffectTables,
-    facts: u8,
-    bytes: &[u8],
-) -> Result<usize, Refusal>
-    requires { facts ≤ 32 }
-    ensures kept { E.Entries.model.later on.old on.new }
-    ensures some { IfOk result (λ n. (0 < n) × (n ≤ length bytes.now)) }
-    ensures stands { (K : Algebra) (row : Row) → Closed K → Tables K tables.now → Holds E.Entries.model K on.old stack.old row → Stepped E.Entries.model K facts row bytes.now on.old on.new stack.new result }
-{
-    let (command, count) = stack.outline.next(tables, facts, bytes)?;
-    let none = on.constant(0);
-    let top = stack.under(0, none);
-    let second = stack.under(1, none);
-    let entry = make(on, tables, command, top, second)?;
-    stack.put(command, entry);
-    Ok(count)
+impl Rules<'_> {
+    ghost use Rattle.tape.specs.Entries.{Holds, Stepped, Reads};
+
+    // Reads the command at the start of the bytes: how many bytes it takes, or why it is refused.
+    pub fn step<E: Entries>(
+        &self,
+        on: &mut E,
+        stack: &mut Stack<E::Entry>,
+        bytes: &[u8],
+    ) -> Result<usize, Refusal>
+        ensures kept { E.Entries.model.later on.old on.new }
+        ensures some { IfOk result (λ n. 0 < n) }
+        ensures there { IfOk result (λ n. n ≤ length bytes.now) }
+        ensures stands { (K : Algebra) (row : Row) → Closed K → Tables K self.now.tables.now → Holds E.Entries.model K on.old stack.old row → Stepped E.Entries.model K self.now.facts row bytes.now on.old on.new stack.new result }
+    {
+        let (command, count) = self.next(stack, bytes)?;
+        let none = on.constant(0);
+        let top = stack.top(none);
+        let under = stack.under(none);
+        let entry = make(on, self.tables, command, top, under)?;
+        stack.put(command, entry);
+        Ok(count)
+    }
+
+    // Reads a whole tape, up to the first command that is refused.
+    pub fn read_all<E: Entries>(
+        &self,
+        on: &mut E,
+        stack: &mut Stack<E::Entry>,
+        tape: &[u8],
+    ) -> Result<(), RefusedAt>
+        ensures kept { E.Entries.model.later on.old on.new }
+        ensures reads { (K : Algebra) (row : Row) → Closed K → Tables K self.now.tables.now → Holds E.Entries.model K on.old stack.old row → Reads E.Entries.model K self.now.facts (length tape.now) row 0 tape.now on.old on.new stack.new result }
+    {
+        let mut place = 0;
+        while place < tape.len() {
+            match self.step(on, stack, &tape[place..]) {
+                Ok(taken) => place += taken,
+                Err(refusal) => return Err(refusal.at(place)),
+            }
+        }
+        if !stack.ended {
+            return Err(Refusal::NoEnd.at(place));
+        }
+        Ok(())
+    }
 }

@@ -1,39 +1,25 @@
-// The numbers and layers of refusals.
+// The numbers, layers and places of refusals.
 ghost use Rattle.std.specs.Prelude.{◌≡◌};
-ghost use Rattle.tape.specs.Refusals.{number_of, layer_of};
+ghost use Rattle.tape.specs.Refusals.{number_of, layer_of, at_place};
 
-use crate::refusal::{Layer, Refusal};
+use crate::refusal::{Layer, Refusal, RefusedAt};
 
 impl Refusal {
+    // The refusal at a byte place.
+    pub fn at(self, place: usize) -> RefusedAt
+        ensures { result ≡ at_place self place }
+    {
+        RefusedAt {
+            refusal: self,
+            place,
+        }
+    }
+
     // The number by which a refusal is told.
     pub fn number(self) -> u8
         ensures { result ≡ number_of self }
     {
-        match self {
-            Refusal::BadName => 10,
-            Refusal::NamesFull => 11,
-            Refusal::DraftOpen => 20,
-            Refusal::AllFiled => 21,
-            Refusal::NotOpenDraft => 22,
-            Refusal::NotEnded => 23,
-            Refusal::UnknownByte => 30,
-            Refusal::CutOff => 31,
-            Refusal::UndeclaredFact => 32,
-            Refusal::NotStatable => 33,
-            Refusal::NoCombiner => 34,
-            Refusal::WrongEntry => 35,
-            Refusal::StackFull => 36,
-            Refusal::WrongEnd => 37,
-            Refusal::AfterEnd => 38,
-            Refusal::NoSlot => 39,
-            Refusal::TapeTooLong => 40,
-            Refusal::NoEnd => 41,
-            Refusal::NoPolicy => 50,
-            Refusal::NoQuestion => 51,
-            Refusal::UndeclaredInRequest => 52,
-            Refusal::TooManyFacts => 53,
-            Refusal::BadJob => 60,
-        }
+        self as u8
     }
 
     // The layer that checks for a refusal.

@@ -1,16 +1,20 @@
 // Direct reading: the rules at one request.
-ghost use Rattle.std.specs.Prelude.{◌≡◌, ℕ, ◌+◌, ◌<◌, ◌≤◌, length};
+ghost use Rattle.std.specs.Prelude.{◌≡◌};
 ghost use Rattle.effects.specs.Codes.{Codes as Algebra, Closed, codes};
 ghost use Rattle.effects.specs.Tables.{Tables};
 ghost use Rattle.tape.specs.Tape.{read_answer};
 ghost use Rattle.tape.specs.Readers.{at_model, at_lasts};
 
 use crate::at_request::AtRequest;
+use crate::decode::beyond;
 use crate::entries::Entries;
 use crate::refusal::{Refusal, RefusedAt};
+use crate::rules::Rules;
 use crate::stack::Stack;
-use crate::{decode, entries};
 use effects::{EffectAlgebra, EffectTables};
+
+// The most bytes of a tape.
+pub const LONGEST_TAPE: usize = 65535;
 
 impl Entries for AtRequest {
     type Entry = u8;
@@ -24,27 +28,15 @@ impl Entries for AtRequest {
     }
 
     fn fact(&mut self, fact: u8) -> Result<u8, Refusal> {
-        if (self.request >> fact) % 2 == 1 {
-            Ok(1)
-        } else {
-            Ok(0)
-        }
+        Ok(u8::from((self.request >> fact) % 2 == 1))
     }
 
     fn any(&mut self, mask: u32) -> Result<u8, Refusal> {
-        if mask & self.request == 0 {
-            Ok(0)
-        } else {
-            Ok(1)
-        }
+        Ok(u8::from(mask & self.request != 0))
     }
 
     fn all(&mut self, mask: u32) -> Result<u8, Refusal> {
-        if mask & self.request == mask {
-            Ok(1)
-        } else {
-            Ok(0)
-        }
+        Ok(u8::from(mask & self.request == mask))
     }
 
     fn apply(&mut self, table: &[u8; 256], first: u8, second: u8) -> Result<u8, Refusal> {
@@ -53,6 +45,7 @@ impl Entries for AtRequest {
 }
 
 // Reads a tape at one request by an algebra's tables: the code of its policy's effect there.
+#[tactic(auto, unfolding(crate::specs::Tape::read_answer))]
 pub fn read_with(
     tables: &EffectTables,
     facts: u8,
@@ -62,38 +55,17 @@ pub fn read_with(
     ensures { (K : Algebra) → Closed K → Tables K tables.now → result ≡ read_answer K facts tape.now request }
 {
     if facts > 32 {
-        return Err(RefusedAt {
-            refusal: Refusal::TooManyFacts,
-            place: 0,
-        });
+        return Err(Refusal::TooManyFacts.at(0));
     }
-    if decode::beyond(facts, request) {
-        return Err(RefusedAt {
-            refusal: Refusal::UndeclaredInRequest,
-            place: 0,
-        });
+    if beyond(facts, request) {
+        return Err(Refusal::UndeclaredInRequest.at(0));
     }
-    if tape.len() > 65535 {
-        return Err(RefusedAt {
-            refusal: Refusal::TapeTooLong,
-            place: 0,
-        });
+    if tape.len() > LONGEST_TAPE {
+        return Err(Refusal::TapeTooLong.at(0));
     }
     let mut on = AtRequest { request };
     let mut stack = Stack::empty(0u8);
-    let mut place = 0;
-    while place < tape.len() {
-        match entries::step(&mut on, &mut stack, tables, facts, &tape[place..]) {
-            Ok(count) => place += count,
-            Err(refusal) => return Err(RefusedAt { refusal, place }),
-        }
-    }
-    if !stack.outline.ended {
-        return Err(RefusedAt {
-            refusal: Refusal::NoEnd,
-            place,
-        });
-    }
+    Rules { tables, facts }.read_all(&mut on, &mut stack, tape)?;
     Ok(stack.top(0))
 }
 

@@ -1,52 +1,52 @@
-// What the unit refuses, each with its number and the layer that checks it.
+// What the unit refuses, each with its number.
 #[derive(Clone, Copy, PartialEq, Eq, Debug)]
 pub enum Refusal {
     // a name that is empty, too long, or has a byte that no name has
-    BadName,
+    BadName = 10,
     // a new name with no slot for it, or the 33rd
-    NamesFull,
+    NamesFull = 11,
     // a draft is open already
-    DraftOpen,
+    DraftOpen = 20,
     // 64 policies are filed
-    AllFiled,
+    AllFiled = 21,
     // not this shelf's open draft
-    NotOpenDraft,
+    NotOpenDraft = 22,
     // filed before END
-    NotEnded,
+    NotEnded = 23,
     // a byte that begins no command
-    UnknownByte,
+    UnknownByte = 30,
     // no byte, or a command cut off before the end of its operand
-    CutOff,
+    CutOff = 31,
     // an operand with a fact that is not declared
-    UndeclaredFact,
+    UndeclaredFact = 32,
     // an effect that may not be stated
-    NotStatable,
+    NotStatable = 33,
     // a combiner that the algebra lacks
-    NoCombiner,
+    NoCombiner = 34,
     // an entry that a command takes is missing, or of the other kind
-    WrongEntry,
+    WrongEntry = 35,
     // the 33rd entry
-    StackFull,
+    StackFull = 36,
     // END where not exactly one entry stands, or a condition
-    WrongEnd,
+    WrongEnd = 37,
     // anything after END
-    AfterEnd,
+    AfterEnd = 38,
     // no slot for what the command's result needs
-    NoSlot,
+    NoSlot = 39,
     // a tape of more than 65,535 bytes
-    TapeTooLong,
+    TapeTooLong = 40,
     // the bytes run out before END
-    NoEnd,
+    NoEnd = 41,
     // no such policy
-    NoPolicy,
+    NoPolicy = 50,
     // no such question
-    NoQuestion,
+    NoQuestion = 51,
     // a request with a fact that is not declared
-    UndeclaredInRequest,
+    UndeclaredInRequest = 52,
     // more than 32 facts
-    TooManyFacts,
+    TooManyFacts = 53,
     // a job with an unknown command, cut short, or over 65,535 bytes
-    BadJob,
+    BadJob = 60,
 }
 
 // Where a refusal is checked.

@@ -1,9 +1,28 @@
 // The stack that a tape works on.
-use crate::outline::Outline;
+use crate::command::Kind;
+use arrayvec::ArrayVec;
+use std::default::MadeWith;
 
-// At most 32 entries, the top one last; what an entry is depends on the reader.
+// An entry with its kind; what an entry is depends on the reader.
 #[derive(Clone, Copy)]
+pub struct Placed<T> {
+    pub kind: Kind,
+    pub entry: T,
+}
+
+// The places of a stack that are not in use hold blanks, made of an entry that the stack is given for that.
+impl<T: Copy> MadeWith<T> for Placed<T> {
+    fn made_with(blank: T) -> Placed<T> {
+        Placed {
+            kind: Kind::Condition,
+            entry: blank,
+        }
+    }
+}
+
+// At most 32 entries, the top one last, and whether END was read.
+#[derive(Drop)]
 pub struct Stack<T> {
-    pub outline: Outline,
-    pub entries: [T; 32],
+    pub entries: ArrayVec<Placed<T>, 32, T>,
+    pub ended: bool,
 }
