@@ -7,7 +7,7 @@ use probing::Slot;
 use probing::node::Node;
 use probing::pair::Pair;
 use std::test::Fail;
-use tape::{Stack, step};
+use tape::{Refusal, RefusedAt, Rules, Stack};
 
 // Slots with left-overs in them.
 const JUNK: Slot<Node> = Slot {
@@ -27,18 +27,12 @@ const USED: Slot<Pair> = Slot {
     serial: 1,
 };
 
-// Runs a whole tape over a store: the top entry then, or the number of the refusal.
-fn load(store: &mut Store, tables: &EffectTables, facts: u8, tape: &[u8]) -> Result<u16, u8>
+// Runs a whole tape over a store: the top entry then.
+fn load(store: &mut Store, tables: &EffectTables, facts: u8, tape: &[u8]) -> Result<u16, RefusedAt>
     requires { facts ≤ 32 }
 {
     let mut stack = Stack::empty(0u16);
-    let mut place = 0;
-    while place < tape.len() {
-        match step(store, &mut stack, tables, facts, &tape[place..]) {
-            Ok(count) => place += count,
-            Err(refusal) => return Err(refusal.number()),
-        }
-    }
+    Rules { tables, facts }.read_all(store, &mut stack, tape)?;
     Ok(stack.top(0))
 }
 
@@ -64,7 +58,7 @@ fn shares_a_node(rt: HostRuntime) -> Result<(), Fail> {
     let mut slots = [JUNK; 4];
     let tables = effect_tables::<FourEffect>();
     let mut store = Store::new(&mut slots);
-    let policy = load(&mut store, &tables, 2, &[0x10, 1, 0x01, 1, 0x11])?;
+    let policy = load(&mut store, &tables, 2, &[0x10, 1, 0x01, 1, 0x11, 0x1F])?;
     assert_eq!(rt; store.held(), 1);
     assert_eq!(rt; store.evaluate(policy, 2), 1);
     assert_eq!(rt; store.evaluate(policy, 1), 0);
@@ -163,6 +157,9 @@ fn refused_for_want_of_a_slot(rt: HostRuntime) {
     let tables = effect_tables::<FourEffect>();
     let mut store = Store::new(&mut slots);
     let tape = [0x01, 0, 0x01, 1, 0x06];
-    assert_eq!(rt; load(&mut store, &tables, 2, &tape), Err(39));
+    assert_eq!(rt;
+        load(&mut store, &tables, 2, &tape),
+        Err(Refusal::NoSlot.at(4))
+    );
     assert_eq!(rt; store.held(), 2);
 }

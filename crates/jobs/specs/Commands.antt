@@ -28,9 +28,9 @@ Says bytes (Compare first second question) = (slice_index bytes 0 ≡ 0x42) × (
 Says bytes (Ask policy request) = (slice_index bytes 0 ≡ 0x43) × (policy ≡ slice_index bytes 1) × (request ≡ request_in bytes)
 Says bytes (Find name) = ⊥
 Says bytes Open = ⊥
-Says bytes (Feed shelf count tape) = ⊥
-Says bytes (File shelf count) = ⊥
-Says bytes (Abandon shelf count) = ⊥
+Says bytes (Feed draft tape) = ⊥
+Says bytes (File draft) = ⊥
+Says bytes (Abandon draft) = ⊥
 Says bytes (Shape policy) = ⊥
 Says bytes Held = ⊥
 

@@ -19,7 +19,7 @@ line_of (CodeOf code) = Some (Code code)
 line_of (RefusedFor refusal) = Some (Refused (record { refusal = refusal; place = 0 }))
 line_of (RefusedThere refused) = Some (Refused refused)
 line_of Unknown = None
-line_of (Opened shelf count) = None
+line_of (Opened draft) = None
 line_of (Took bytes) = None
 line_of (Filed policy) = None
 line_of Abandoned = None

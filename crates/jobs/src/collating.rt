@@ -12,7 +12,7 @@ use probing::node::Node;
 use probing::pair::Pair;
 use shelf::{Answer, Call, run};
 use std::alloc::{AllocError, Global};
-use tape::{Refusal, RefusedAt};
+use tape::Refusal;
 
 // How many slots the shelf of a job has, and how many names it can take.
 const SLOTS: usize = 2048;
@@ -22,39 +22,13 @@ const NAME_SLOTS: usize = 32;
 // How many pairs a comparison can remember. More would not change an answer.
 const SCRATCH_SLOTS: usize = 1024;
 
-// What slots hold before a shelf is made in them.
-const NO_NODE: Slot<Node> = Slot {
-    key: Node {
-        fact: 0,
-        low: 0,
-        high: 0,
-    },
-    serial: 0,
-};
-
-const NO_NAME: Slot<Name> = Slot {
-    key: Name {
-        len: 0,
-        bytes: [0; 16],
-    },
-    serial: 0,
-};
-
-const NO_PAIR: Slot<Pair> = Slot {
-    key: Pair {
-        first: 0,
-        second: 0,
-    },
-    serial: 0,
-};
-
 // The answers to calls on a new shelf.
 fn answers_to(heap: Global, calls: &[Call]) -> Result<Vec<Answer>, AllocError>
     ensures { IfOk result (λ v. Answers calls.now v.items) }
 {
-    let mut nodes = vec![in heap; NO_NODE; SLOTS]?;
-    let mut names = vec![in heap; NO_NAME; NAME_SLOTS]?;
-    let mut scratch = vec![in heap; NO_PAIR; SCRATCH_SLOTS]?;
+    let mut nodes = vec![in heap; Slot::<Node>::default(); SLOTS]?;
+    let mut names = vec![in heap; Slot::<Name>::default(); NAME_SLOTS]?;
+    let mut scratch = vec![in heap; Slot::<Pair>::default(); SCRATCH_SLOTS]?;
     let mut log = vec![in heap; Answer::Unknown; calls.len()]?;
     run::<FourEffect>(0, &mut nodes, &mut names, calls, &mut scratch, &mut log);
     Ok(log)
@@ -66,12 +40,7 @@ pub fn collate(heap: Global, job: &[u8]) -> Result<Vec<Line>, AllocError>
 {
     let job = parse(heap, job)?;
     let answers = answers_to(heap, &job.calls)?;
-    let refused = job.bad.map(|place| {
-        Line::Refused(RefusedAt {
-            refusal: Refusal::BadJob,
-            place,
-        })
-    });
+    let refused = job.bad.map(|place| Line::Refused(Refusal::BadJob.at(place)));
     answers
         .iter()
         .filter_map(|answer| line_of(*answer))

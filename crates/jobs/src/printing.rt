@@ -17,7 +17,7 @@ pub fn line_of(answer: Answer) -> Option<Line>
         Answer::Kept => Some(Line::Kept),
         Answer::Witness(request) => Some(Line::Witness(request)),
         Answer::Code(code) => Some(Line::Code(code)),
-        Answer::Refused(refusal) => Some(Line::Refused(RefusedAt { refusal, place: 0 })),
+        Answer::Refused(refusal) => Some(Line::Refused(refusal.at(0))),
         Answer::RefusedThere(refused) => Some(Line::Refused(refused)),
         _ => None,
     }

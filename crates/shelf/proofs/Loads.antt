@@ -1,27 +1,24 @@
 -- A whole tape read into a store.
-use Rattle.std.proofs.Common.{◌≡◌, ℕ, ◌+◌, ◌<◌, ◌≤◌, true, false, List, ◌++◌, length, get_or, drop, Ok, Err, Result, sym, refl, ap, ◌∙◌, subst, append-nil, is_some}
+use Rattle.std.proofs.Common.{◌≡◌, ℕ, ◌+◌, ◌<◌, ◌≤◌, true, false, List, [], ◌∷◌, ◌++◌, length, get_or, drop, Ok, Err, Result, sym, refl, ap, ◌∙◌, subst, append-nil, is_some}
 use Rattle.std.proofs.lemmas.Bool.{cond-true, cond-false, false≢true}
 use Rattle.effects.specs.Codes.{Codes, QuestionCodes}
 use Rattle.effects.specs.declared.tables.EffectTables.{EffectTables}
 use Rattle.effects.specs.declared.tables.QuestionTables.{QuestionTables}
 use Rattle.probing.specs.Model.{NameTable}
 use Rattle.probing.specs.declared.name.Name.{Name}
-use Rattle.tape.specs.Entries.{Stepped, down}
-use Rattle.tape.specs.Refusals.{at_place}
-use Rattle.tape.specs.Tape.{Row, Tests}
+use Rattle.tape.specs.Entries.{Holds, Moved, Reads, entries_on, own_command}
+use Rattle.tape.specs.Tape.{Row, Tests, next_command, ended}
 use Rattle.tape.specs.declared.command.Command.{Command}
-use Rattle.tape.specs.declared.refusal.Refusal.{Refusal}
-use Rattle.tape.specs.declared.refusal.Refusal.TheVariants.{NoEnd}
 use Rattle.tape.specs.declared.refusal.RefusedAt.{RefusedAt}
 use Rattle.tape.specs.declared.stack.Stack.{Stack}
-use Rattle.tape.proofs.Reading.{Reading, reading_start, reading_more, reading_refused, reading_end}
+use Rattle.tape.proofs.Reading.{Reading, holds_empty, reading, reading_ok, reading_err}
 use Rattle.diagram.specs.Counted.{Each, Ignores}
 use Rattle.diagram.specs.Entries.{store_model}
 use Rattle.diagram.specs.Stores.{slots, Later, Unchanged}
 use Rattle.diagram.specs.declared.store.Store.{Store}
 use Rattle.shelf.specs.Catalogue.{Catalogue, facts, results, all_results, filing}
 use Rattle.shelf.specs.Calls.{slot_tests}
-use Rattle.shelf.specs.Loading.{read_row, Loaded, LoadsTo}
+use Rattle.shelf.specs.Loading.{read_row}
 use Rattle.shelf.specs.States.{filed_state}
 use Rattle.shelf.specs.Upholds.{Storing, Fed, Upholds}
 use Rattle.shelf.specs.declared.state.State.{State}
@@ -34,42 +31,47 @@ pub record Also (K : Codes) (n many : ℕ) (Fs : List (ℕ → ℕ)) (row : Row)
   pub storing : Storing s many n (Fs ++ results K row)
   pub fed : Fed K n row
 
-module _ (K : Codes) (n : ℕ) (few : n ≤ 32) (many : ℕ) (Fs : List (ℕ → ℕ)) (tape : List ℕ) where
+-- what the store and the stack hold once the row is read, after the results Fs
+pub record Loaded (K : Codes) (n many : ℕ) (Fs : List (ℕ → ℕ)) (store : Store) (stack : Stack ℕ) (row : Row) : Type 0 where
+  pub also : Also K n many Fs row store
+  pub holds : Holds store_model K store stack row
+  pub ends : ended row ≡ true
+
+-- a tape read from a store that records Fs and from an empty stack
+module _ (K : Codes) (n : ℕ) (few : n ≤ 32) (Fs : List (ℕ → ℕ)) (tape : List ℕ) (s : Store) (st : Stack ℕ) (w : Storing s (slots s) n Fs) (bare : st.entries.items ≡ []) (unended : st.ended ≡ false) where
   -- the last test of each command
   abbrev pub tests : Row → Command → Tests
-  tests row x = slot_tests K many n (Fs ++ results K row) row x
+  tests row x = slot_tests K (slots s) n (Fs ++ results K row) row x
 
-  -- the tape is read up to a place
-  abbrev pub ReadTo : Store → Stack ℕ → ℕ → Type 0
-  ReadTo s st place = Reading store_model (Also K n many Fs) (λ row x. slot_tests K many n (Fs ++ results K row) row x) K n tape s st place
+  -- the reader has read nothing yet
+  pub from_empty : Holds store_model K s st []
+  from_empty = holds_empty store_model K s st bare unended
 
-  pub read_none : (s : Store) (st : Stack ℕ) → st.outline.depth ≡ 0 → st.outline.ended ≡ false → Storing s many n Fs → ReadTo s st 0
-  read_none s st d e w = reading_start store_model (Also K n many Fs) tests K n tape s st d e (record {
-    storing = subst (Storing s many n) (sym (ap (λ Gs. Fs ++ Gs) (results_none K) ∙ append-nil Fs)) w;
-    fed = fed_none K n;
-  })
+  pub read_so : (t : Store) (su : Stack ℕ) (r : Result (Unit {0}) RefusedAt) → Reads store_model K n (length tape) [] 0 tape s t su r → Reading store_model (Also K n (slots s) Fs) K t su (read_row K n (slots s) Fs tape) r
+  read_so t su r x =
+      reading store_model (Also K n (slots s) Fs) tests K n same goes (length tape) [] 0 tape s t su r (record {
+        storing = subst (Storing s (slots s) n) (sym (ap (λ Gs. Fs ++ Gs) (results_none K) ∙ append-nil Fs)) w;
+        fed = fed_none K n;
+      }) x
+    where
+      same : (row : Row) (bs : List ℕ) (v : Store) → Also K n (slots s) Fs row v → own_command store_model K n v row bs ≡ next_command K n (tests row) row bs
+      same row bs v a = own_is K n few Fs row bs v (slots s) a.storing a.fed
 
-  pub read_more : (s t : Store) (st su : Stack ℕ) (place c : ℕ) (rd : ReadTo s st place) → place < length tape → 0 < c → c ≤ length (drop place tape) → Stepped store_model K n rd.row (drop place tape) s t su (Ok c) → ReadTo t su (place + c)
-  read_more s t st su place c rd lt pos le sd =
-      let row = rd.row in
-      let bs = drop place tape in
-      let own = own_is K n few Fs row bs s many rd.also.storing rd.also.fed in
-      reading_more store_model (Also K n many Fs) tests K n tape s t st su place c rd lt pos le (λ d e. sym own ∙ e)
-      (λ d e h m. record {
-        storing = storing_more K n few Fs row bs s many rd.also.storing rd.also.fed t d (sym own ∙ e) m;
-        fed = fed_next K n few Fs row bs s many rd.also.storing rd.also.fed d t su (sym own ∙ e) h;
-      }) sd
+      goes : (row : Row) (bs : List ℕ) (v u : Store) (su : Stack ℕ) (d : Command × ℕ) → Also K n (slots s) Fs row v → own_command store_model K n v row bs ≡ Ok d → Moved store_model K row v u (Ok d) → Holds store_model K u su (row ++ d.0 ∷ []) → Also K n (slots s) Fs (row ++ d.0 ∷ []) u
+      goes row bs v u su d a e m h = record {
+        storing = storing_more K n few Fs row bs v (slots s) a.storing a.fed u d (sym (same row bs v a) ∙ e) m;
+        fed = fed_next K n few Fs row bs v (slots s) a.storing a.fed d u su (sym (same row bs v a) ∙ e) h;
+      }
 
-  pub read_refused : (s t : Store) (st su : Stack ℕ) (place : ℕ) (e : Refusal) (rd : ReadTo s st place) → place < length tape → Stepped store_model K n rd.row (drop place tape) s t su (Err e) → LoadsTo K n many Fs tape t su (Err (at_place e place))
-  read_refused s t st su place e rd lt sd =
-      reading_refused store_model (Also K n many Fs) tests K n tape s t st su place e rd lt (λ q. sym (own_is K n few Fs rd.row (drop place tape) s many rd.also.storing rd.also.fed) ∙ q) sd
+  -- it is refused
+  pub read_refused : (t : Store) (su : Stack ℕ) (e : RefusedAt) → Reads store_model K n (length tape) [] 0 tape s t su (Err e) → read_row K n (slots s) Fs tape ≡ Err e
+  read_refused t su e x = reading_err store_model (Also K n (slots s) Fs) K t su (read_row K n (slots s) Fs tape) e (read_so t su (Err e) x)
 
-  pub read_early : (s : Store) (st : Stack ℕ) (place : ℕ) → ReadTo s st place → length tape ≤ place → st.outline.ended ≡ false → LoadsTo K n many Fs tape s st (Err (at_place NoEnd place))
-  read_early s st place rd le e = reading_end store_model (Also K n many Fs) tests K n tape s st place rd le ∙ cond-false _ _ _ e
-
-  pub read_whole : (s : Store) (st : Stack ℕ) (place : ℕ) → ReadTo s st place → length tape ≤ place → st.outline.ended ≡ true → LoadsTo K n many Fs tape s st (Ok tt)
-  read_whole s st place rd le e =
-      (rd.row, (reading_end store_model (Also K n many Fs) tests K n tape s st place rd le ∙ cond-true _ _ _ e, record { storing = rd.also.storing; holds = rd.holds; fed = rd.also.fed; ends = sym rd.holds.over ∙ e }))
+  -- or read to its end
+  pub read_whole : (t : Store) (su : Stack ℕ) (a : Unit {0}) → Reads store_model K n (length tape) [] 0 tape s t su (Ok a) → (row : Row) × ((read_row K n (slots s) Fs tape ≡ Ok row) × Loaded K n (slots s) Fs t su row)
+  read_whole t su a x =
+      let w = reading_ok store_model (Also K n (slots s) Fs) K t su (read_row K n (slots s) Fs tape) a (read_so t su (Ok a) x) in
+      (w.0, (w.1.0, record { also = w.1.2; holds = w.1.1; ends = w.1.3 }))
 
 -- the store of a shelf, before a load
 module _ {K : Codes} {Q : QuestionCodes} {names : NameTable} {store : Store} {tables : EffectTables} {questions : QuestionTables} {stack : Stack ℕ} {state : State} {c : Catalogue} (u : Upholds K Q names store tables questions stack state c) (n : ℕ) (facts-n : n ≡ facts c) where
@@ -84,9 +86,9 @@ module _ {K : Codes} {Q : QuestionCodes} {names : NameTable} {store : Store} {ta
   undone store' none w = unmoved u store' stack w (λ b e. absurd (false≢true (sym none ∙ ap is_some e)))
 
   -- a load that is filed
-  pub filed_row : (store' : Store) (stack' : Stack ℕ) (row : Row) (root : ℕ) → Later store store' → is_some state.before ≡ false → length state.roots.items < 64 → Loaded K n (slots store) (all_results K c) store' stack' row → root ≡ get_or (down 0 stack'.entries stack'.outline.depth) 0 0 → Upholds K Q names store' tables questions stack (filed_state state root) (filing c row)
+  pub filed_row : (store' : Store) (stack' : Stack ℕ) (row : Row) (root : ℕ) → Later store store' → is_some state.before ≡ false → length state.roots.items < 64 → Loaded K n (slots store) (all_results K c) store' stack' row → root ≡ get_or (entries_on stack') 0 0 → Upholds K Q names store' tables questions stack (filed_state state root) (filing c row)
   filed_row store' stack' row root l none room ld top =
-      loaded u store' stack' row root l none room ld.holds (subst (λ m. Fed K m row) facts-n ld.fed) ld.ends
+      loaded u store' stack' row root l none room ld.holds (subst (λ m. Fed K m row) facts-n ld.also.fed) ld.ends
       (subst (Storing store' c.making.slots (facts c)) (ap (λ Fs. Fs ++ results K row) (filed_only K c (closed_row c (u.drafting_is ∙ none))))
-      (subst (λ m. Storing store' c.making.slots m (all_results K c ++ results K row)) facts-n (subst (λ m. Storing store' m n (all_results K c ++ results K row)) (sym u.storing.slots_are) ld.storing)))
+      (subst (λ m. Storing store' c.making.slots m (all_results K c ++ results K row)) facts-n (subst (λ m. Storing store' m n (all_results K c ++ results K row)) (sym u.storing.slots_are) ld.also.storing)))
       top

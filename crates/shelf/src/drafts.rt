@@ -10,7 +10,7 @@ ghost use Rattle.shelf.specs.Stands.{Stands, Lent, Moved};
 
 use crate::draft::{Draft, DraftId};
 use crate::shelf::Shelf;
-use tape::{Refusal, Stack, step};
+use tape::{Refusal, Rules, Stack};
 
 impl Shelf<'_> {
     // Why no draft may be opened, if none may.
@@ -75,7 +75,11 @@ impl Shelf<'_> {
             return Err((Refusal::NotOpenDraft, draft));
         }
         let facts = self.facts();
-        match step(&mut self.store, &mut self.stack, &self.tables, facts, bytes) {
+        let rules = Rules {
+            tables: &self.tables,
+            facts,
+        };
+        match rules.step(&mut self.store, &mut self.stack, bytes) {
             Ok(count) => Ok((count, draft)),
             Err(refusal) => Err((refusal, draft)),
         }
@@ -89,7 +93,7 @@ impl Shelf<'_> {
         if self.held_before(&draft).is_none() {
             return Err((Refusal::NotOpenDraft, draft));
         }
-        if !self.stack.outline.ended {
+        if !self.stack.ended {
             return Err((Refusal::NotEnded, draft));
         }
         let Draft { id: _ } = draft;

@@ -14,9 +14,6 @@ returns-then-is_none c = record {
       (sym (ap (handed_on c.args.draft) a.0), record { stands = at_catalogue u a.1; stay = λ p h k. refl });
 }
 
-pub step-requires : goal.step-requires
-step-requires c = (lit< tt, c.facts-facts.ensures.few)
-
 pub invariant_of-self : goal.invariant_of-self
 invariant_of-self c = record {
   stands = ∥∥₁_map c.args.self.now.stands (λ k.
