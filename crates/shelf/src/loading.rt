@@ -17,7 +17,9 @@ impl Shelf<'_> {
         if tape.len() > LONGEST_TAPE {
             return Err(Refusal::TapeTooLong.at(0));
         }
-        self.refuse_opening().map_err(|refusal| refusal.at(0))?;
+        if let Err(refusal) = self.refuse_opening() {
+            return Err(refusal.at(0));
+        }
         let facts = self.facts();
         let before = self.store.held();
         let mut stack = Stack::empty(0u16);
