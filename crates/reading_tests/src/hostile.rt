@@ -1,12 +1,12 @@
-// Two algebras that have nothing but what the interface asks.
+// An algebra that has nothing but what the interface asks.
 ghost use Rattle.std.specs.Prelude.{◌≡◌};
-ghost use Rattle.reading_tests.specs.Hostile.{odd, odd_questions, single, single_questions};
+ghost use Rattle.reading_tests.specs.Hostile.{odd, odd_questions};
 ghost use Rattle.std.proofs.Common.{rules};
 
 use effects::EffectAlgebra;
 
 // Three effects, of which the last is not applicable; joining an effect with itself gives another one, and
-// the one question is broken by two equal effects.
+// the one question is broken by every pair.
 #[derive(Clone, Copy)]
 pub enum Odd {
     Low = 0,
@@ -70,61 +70,5 @@ impl EffectAlgebra for Odd {
 
     fn breaks(_question: u8, _first: Odd, _second: Odd) -> bool {
         true
-    }
-}
-
-// One effect, no combiner, no question.
-#[derive(Clone, Copy)]
-pub enum Single {
-    Only,
-}
-
-impl EffectAlgebra for Single {
-    ghost effects = { single };
-
-    ghost questions = { single_questions };
-
-    ghost lawful = { Prim.search rules };
-
-    ghost few = { Prim.search rules };
-
-    fn count() -> u8 {
-        1
-    }
-
-    fn code(self) -> u8 {
-        0
-    }
-
-    fn effect(_code: u8) -> Single {
-        Single::Only
-    }
-
-    fn not_applicable() -> Single {
-        Single::Only
-    }
-
-    fn statable(self) -> bool {
-        true
-    }
-
-    fn failed(self) -> Single {
-        Single::Only
-    }
-
-    fn combiner_count() -> u8 {
-        0
-    }
-
-    fn combine(_combiner: u8, _first: Single, _second: Single) -> Single {
-        Single::Only
-    }
-
-    fn question_count() -> u8 {
-        0
-    }
-
-    fn breaks(_question: u8, _first: Single, _second: Single) -> bool {
-        false
     }
 }

@@ -1,7 +1,8 @@
 // Reading leans on nothing but what the interface asks.
-use crate::hostile::{Odd, Single};
+use crate::hostile::Odd;
 use crate::reading::told;
 use effects::{cell, effect_tables, question_tables};
+use single_effect::Single;
 
 // What a tape answers under both algebras, or the number of its refusal.
 fn both(facts: u8, tape: &[u8], request: u32) -> (Result<u8, u8>, Result<u8, u8>) {

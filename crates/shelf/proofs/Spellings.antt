@@ -21,19 +21,6 @@ use Rattle.shelf.specs.declared.state.State.{State}
 use Rattle.probing.proofs.Tables.{at_new, at_refused}
 use Rattle.shelf.proofs.Upholding.{number_is, facts_are, declared, renamed}
 
--- the check of a name's bytes, from byte i on
-rest : (bs : List ℕ) (i : ℕ) → i < length bs → name_bytes (drop i bs) ≡ (name_byte (get_or bs i 0) && name_bytes (drop (i + 1) bs))
-rest bs i h = ap name_bytes (drop-cons bs i 0 h) ∙ ap (λ k. name_byte (get_or bs i 0) && name_bytes (drop k bs)) (sym (add-one i))
-
-pub bytes_more : (bs : List ℕ) (i : ℕ) → i < length bs → name_byte (get_or bs i 0) ≡ true → name_bytes (drop i bs) ≡ name_bytes (drop (i + 1) bs)
-bytes_more bs i h e = rest bs i h ∙ ap (λ b. b && name_bytes (drop (i + 1) bs)) e
-
-pub bytes_stop : (bs : List ℕ) (i : ℕ) → i < length bs → name_byte (get_or bs i 0) ≡ false → name_bytes (drop i bs) ≡ false
-bytes_stop bs i h e = rest bs i h ∙ ap (λ b. b && name_bytes (drop (i + 1) bs)) e
-
-pub bytes_all : (bs : List ℕ) (i : ℕ) → length bs ≤ i → name_bytes (drop i bs) ≡ true
-bytes_all bs i h = ap name_bytes (drop_of_length-le bs h)
-
 -- find
 pub find_bad : (c : Catalogue) (n : Name) → good_name n ≡ false → find_answer c n ≡ None
 unfolding find_answer

@@ -1,5 +1,6 @@
 -- Names: which are good, and when two are equal.
-use Rattle.std.specs.Prelude.{ℕ, Bool, true, ◌&&◌, ◌||◌, List, [], ◌∷◌, map, ◌==◌, nat_le}
+use Rattle.std.specs.Prelude.{ℕ, Bool, ◌&&◌, ◌||◌, List, map, ◌==◌, nat_le}
+use Rattle.std.specs.List.{list_all}
 use Rattle.std.specs.Str.{bytes_eq}
 use Rattle.probing.specs.Kinds.{fold_byte, text}
 use Rattle.probing.specs.declared.name.Name.{Name}
@@ -15,8 +16,7 @@ name_byte b =
 
 -- every byte of a spelling is one that a name may have
 abbrev pub name_bytes : Spelling → Bool
-name_bytes [] = true
-name_bytes (b ∷ bs) = name_byte b && name_bytes bs
+name_bytes bytes = list_all name_byte bytes
 
 -- a good name has 1 to 16 bytes, all of them ones that a name may have
 abbrev pub good_name : Name → Bool

@@ -1,7 +1,7 @@
 // Names: declare and find.
 ghost use Rattle.std.specs.Prelude.{◌≡◌};
 ghost use Rattle.effects.specs.Codes.{Codes, QuestionCodes};
-ghost use Rattle.shelf.specs.Names.{name_byte, name_bytes, good_name};
+ghost use Rattle.shelf.specs.Names.{name_byte, good_name};
 ghost use Rattle.shelf.specs.Catalogue.{Catalogue};
 ghost use Rattle.shelf.specs.Calls.{declare_answer, find_answer, after_declare};
 ghost use Rattle.shelf.specs.Stands.{Stands, Lent, Moved};
@@ -17,23 +17,12 @@ fn is_name_byte(b: u8) -> bool
     b.is_ascii_alphanumeric() || b == b'-' || b == b'.'
 }
 
-// Whether a name may have all these bytes.
-fn are_name_bytes(bytes: &[u8]) -> bool
-    ensures { result ≡ name_bytes bytes.now }
-{
-    for b in bytes {
-        if !is_name_byte(*b) {
-            return false;
-        }
-    }
-    true
-}
-
 // Whether a name is good: it has 1 to 16 bytes, all of them ones that a name may have.
 pub fn is_good(name: &Name) -> bool
     ensures { result ≡ good_name name.now }
 {
-    (1..=16).contains(&name.len) && are_name_bytes(&name.bytes[..name.len as usize])
+    (1..=16).contains(&name.len)
+        && name.bytes[..name.len as usize].iter().all(|b| is_name_byte(*b))
 }
 
 impl Shelf<'_> {

@@ -1,10 +1,8 @@
--- What the two hostile algebras mean.
+-- What the hostile algebra means.
 use Rattle.std.specs.Prelude.{ℕ, true, false, cond, ◌==◌}
 use Rattle.effects.specs.Effects.{Effects, Questions}
 use Rattle.shelf_tests.specs.declared.hostile.Odd.{Odd}
 use Rattle.shelf_tests.specs.declared.hostile.Odd.TheVariants.{Low, Middle, High, Silent}
-use Rattle.shelf_tests.specs.declared.hostile.Single.{Single}
-use Rattle.shelf_tests.specs.declared.hostile.Single.TheVariants.{Only}
 
 -- the code of an effect
 abbrev pub odd_code : Odd → ℕ
@@ -36,20 +34,3 @@ odd = record {
 -- one question, broken by two equal effects and by no others
 abbrev pub odd_questions : Questions Odd
 odd_questions = record { questions = 1; breaks = λ q a b. (odd_code a == odd_code b) }
-
--- one effect alone
-abbrev pub single : Effects Single
-single = record {
-  count = 1;
-  code = λ e. 0;
-  effect = λ n. Only;
-  not_applicable = Only;
-  statable = λ e. true;
-  failed = λ e. Only;
-  combiners = 0;
-  combined = λ k a b. Only;
-}
-
--- no question
-abbrev pub single_questions : Questions Single
-single_questions = record { questions = 0; breaks = λ q a b. false }

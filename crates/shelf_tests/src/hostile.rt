@@ -1,18 +1,18 @@
-// Two algebras that have nothing but what the interface asks.
+// An algebra that has nothing but what the interface asks.
 ghost use Rattle.std.specs.Prelude.{◌≡◌};
-ghost use Rattle.shelf_tests.specs.Hostile.{odd, odd_questions, single, single_questions};
+ghost use Rattle.shelf_tests.specs.Hostile.{odd, odd_questions};
 ghost use Rattle.std.proofs.Common.{rules};
 
 use effects::EffectAlgebra;
 
 // Four effects, of which the last is not applicable; joining an effect with itself gives another one, and
 // the one question is broken by two equal effects.
-#[derive(Clone, Copy)]
+#[derive(Clone, Copy, PartialEq, Eq)]
 pub enum Odd {
-    Low,
-    Middle,
-    High,
-    Silent,
+    Low = 0,
+    Middle = 1,
+    High = 2,
+    Silent = 3,
 }
 
 impl EffectAlgebra for Odd {
@@ -29,12 +29,7 @@ impl EffectAlgebra for Odd {
     }
 
     fn code(self) -> u8 {
-        match self {
-            Odd::Low => 0,
-            Odd::Middle => 1,
-            Odd::High => 2,
-            Odd::Silent => 3,
-        }
+        self as u8
     }
 
     fn effect(code: u8) -> Odd {
@@ -77,62 +72,6 @@ impl EffectAlgebra for Odd {
     }
 
     fn breaks(_question: u8, first: Odd, second: Odd) -> bool {
-        first.code() == second.code()
-    }
-}
-
-// One effect, no combiner, no question.
-#[derive(Clone, Copy)]
-pub enum Single {
-    Only,
-}
-
-impl EffectAlgebra for Single {
-    ghost effects = { single };
-
-    ghost questions = { single_questions };
-
-    ghost lawful = { Prim.search rules };
-
-    ghost few = { Prim.search rules };
-
-    fn count() -> u8 {
-        1
-    }
-
-    fn code(self) -> u8 {
-        0
-    }
-
-    fn effect(_code: u8) -> Single {
-        Single::Only
-    }
-
-    fn not_applicable() -> Single {
-        Single::Only
-    }
-
-    fn statable(self) -> bool {
-        true
-    }
-
-    fn failed(self) -> Single {
-        Single::Only
-    }
-
-    fn combiner_count() -> u8 {
-        0
-    }
-
-    fn combine(_combiner: u8, _first: Single, _second: Single) -> Single {
-        Single::Only
-    }
-
-    fn question_count() -> u8 {
-        0
-    }
-
-    fn breaks(_question: u8, _first: Single, _second: Single) -> bool {
-        false
+        first == second
     }
 }

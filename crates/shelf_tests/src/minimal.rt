@@ -1,7 +1,8 @@
 // A shelf leans on nothing but what the interface of algebras asks.
-use crate::hostile::{Odd, Single};
+use crate::hostile::Odd;
 use crate::support::*;
 use shelf::{Call, Shelf};
+use single_effect::Single;
 use std::test::Fail;
 
 // Not applicable is the last code, and two equal effects break the one question.
