@@ -30,7 +30,8 @@ fn ask(policy: &[u8], request: &[u8]) -> Option<[u8; 6]>
     Some([Verb::Ask as u8, policy, a, b, c, d])
 }
 
-// Adds the declare of a line to a job. So do the other ones with what they are given.
+// Adds the declare of a line to a job. So do the other ones with what they are given. Job and line stay two parameters: a type
+// for the two would have nothing to say of them.
 fn push_declare(job: &mut Vec<u8>, line: usize, name: &[u8]) -> Result<(), ComposeError>
     ensures { Adds line (declare_job name.now) job.old.items result job.new.items }
 {

@@ -13,6 +13,8 @@ use crate::store::{FACTS, Full, Store};
 use effects::cell;
 use probing::node::Node;
 
+// That a code is one of the store's, and what it tests, is asked by each function here: of a bare number no type can say it,
+// since it is about a store that grows meanwhile.
 impl Store<'_> {
     // The code of a test of a fact over two codes: theirs where they are the same, one that is there, or a new one.
     fn test(&mut self, fact: u8, low: u16, high: u16) -> Result<u16, Full>

@@ -18,7 +18,8 @@ const FACULTY: Name = Name {
 };
 
 // Gives a draft up. A shelf takes back its open draft and no other, and one that is handed back could not be let go: so
-// whoever calls this shows that it is the open one.
+// whoever calls this shows that it is the open one. (Tried: a struct of shelf and draft that knows it. But what such a struct says of
+// a shelf that it borrows has to hold of the shelf that it leaves, too, whose draft is gone.)
 fn give_up(shelf: &mut Shelf, draft: Draft)
     requires { Owns shelf.old draft }
 {

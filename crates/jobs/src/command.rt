@@ -4,7 +4,7 @@ ghost use Rattle.jobs.specs.Commands.{Begins};
 use probing::name::Name;
 use shelf::Call;
 
-// The first bytes of job commands.
+// The first bytes of job commands: constants and no enum, since patterns over the bytes name them.
 const DECLARE: u8 = 0x40;
 
 const LOAD: u8 = 0x41;

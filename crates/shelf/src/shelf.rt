@@ -20,6 +20,6 @@ pub struct Shelf<'a> {
     pub(crate) questions: QuestionTables,
     pub(crate) stack: Stack<u16>,
     pub(crate) state: State,
-    // it stands at some catalogue of some algebra
+    // it stands at some catalogue of some algebra; which one is each call's premise, since nobody stores the catalogue
     ghost stands: { ∥ ((K : Codes) × ((Q : QuestionCodes) × ((c : Catalogue) × Upholds K Q names store tables questions stack state c))) ∥₁ },
 }

@@ -117,6 +117,8 @@ impl Rules<'_> {
         ensures kept { E.Entries.model.later on.old on.new }
         ensures reads { (K : Algebra) (row : Row) → Closed K → Tables K self.now.tables.now → Holds E.Entries.model K on.old stack.old row → Reads E.Entries.model K self.now.facts (length tape.now) row 0 tape.now on.old on.new stack.new result }
     {
+        // By the place, since a command says itself how far the next one is, and a refusal is told with its place; `map_err` and `?`
+        // were tried, and the proof of that way out did not close.
         let mut place = 0;
         while place < tape.len() {
             match self.step(on, stack, &tape[place..]) {
