@@ -1,4 +1,4 @@
-// The worked policies as a theorem.
+// The worked policies as a theorem. (Crate `holdings` has a longer list, which needs a shelf; this one is for who has tapes alone.)
 ghost use Rattle.tape.specs.Holdings.{Every, Holdings as holdings_of};
 
 // Every statement about the worked policies holds. The contract is the theorem, and nothing is computed.
