@@ -29,7 +29,7 @@ returns g c =
       either = λ a b h k. let e = cell_by c.code_table-3.ensures a b (omega arith) (omega arith) in search rules;
       scope = λ a b h k. let e = cell_by c.code_table-4.ensures a b (omega arith) (omega arith) in search rules;
       fail = λ a b h k. let e = cell_by c.code_table-5.ensures a b (omega arith) (omega arith) in search rules;
-      combine = λ k a b lk la lb. 
+      combine = λ k a b lk la lb.
           let below : k < 4 = omega arith in
           let same : get_or (0 ∷ 1 ∷ 2 ∷ 3 ∷ []) k 0 ≡ k = get_or-range_with_len 0 4 k 0 below ∙ zero-add k in
           let called = c.map.ensures.items.at k 0 c.code_table.result below in
