@@ -1,7 +1,8 @@
 -- How codes are built of the codes of their sides.
 use Rattle.std.proofs.Common.{◌≡◌, ℕ, suc, ◌+◌, ◌-◌, ◌*◌, ◌<◌, ◌&&◌, ltb, List, length, get_or, Ok, Err, Result, sym, ap, ◌∙◌, subst, ap₂, subst₂, inl, inr, add-one, arith}
 use Rattle.std.proofs.lemmas.Bool.{cases_Bool, cases_lt, cond-true, cond-false, lt-ltb, le-ltb, and_from, and_left, and_right}
-use Rattle.effects.specs.Cells.{cell, Small}
+use Rattle.effects.specs.Cells.{cell}
+use Rattle.effects.specs.declared.tables.CodeTable.{CodeTable}
 use Rattle.probing.specs.declared.node.Node.{Node}
 use Rattle.diagram.specs.Tree.{Tree, Neat, same, mk, low, high, applied}
 use Rattle.diagram.specs.Tree.Tree.{terminal, branch}
@@ -156,11 +157,11 @@ module _ (n k : ℕ) (xs : List Node) (a b : ℕ) (p : Split) (P : Parted n k xs
           combined = answered n slots xs g both f lows (highs xs) whole ys lo m₁ zs hi m₂'
 
 -- what a table of codes says is a code
-pub cell_small : (t : List ℕ) → Small t → (a b : ℕ) → cell t a b < 16
-cell_small t s a b = elim (cases_lt a 16) [
+pub cell_small : (t : CodeTable) (a b : ℕ) → cell t.cells a b < 16
+cell_small t a b = elim (cases_lt a 16) [
   | inl ha ↦ elim (cases_lt b 16) [
-    | inl hb ↦ subst (λ v. v < 16) (sym (cond-true (ltb a 16 && ltb b 16) (get_or t (a * 16 + b) 0) 0 (and_from (ltb a 16) (ltb b 16) (lt-ltb a 16 ha) (lt-ltb b 16 hb)))) (s (a * 16 + b) (omega arith))
-    | inr hb ↦ subst (λ v. v < 16) (sym (cond-false (ltb a 16 && ltb b 16) (get_or t (a * 16 + b) 0) 0 (and_right (ltb a 16) (ltb b 16) (le-ltb b 16 hb)))) (omega arith)
+    | inl hb ↦ subst (λ v. v < 16) (sym (cond-true (ltb a 16 && ltb b 16) (get_or t.cells (a * 16 + b) 0) 0 (and_from (ltb a 16) (ltb b 16) (lt-ltb a 16 ha) (lt-ltb b 16 hb)))) (t.small (a * 16 + b) (omega arith))
+    | inr hb ↦ subst (λ v. v < 16) (sym (cond-false (ltb a 16 && ltb b 16) (get_or t.cells (a * 16 + b) 0) 0 (and_right (ltb a 16) (ltb b 16) (le-ltb b 16 hb)))) (omega arith)
   ]
-  | inr ha ↦ subst (λ v. v < 16) (sym (cond-false (ltb a 16 && ltb b 16) (get_or t (a * 16 + b) 0) 0 (and_left (ltb a 16) (ltb b 16) (le-ltb a 16 ha)))) (omega arith)
+  | inr ha ↦ subst (λ v. v < 16) (sym (cond-false (ltb a 16 && ltb b 16) (get_or t.cells (a * 16 + b) 0) 0 (and_left (ltb a 16) (ltb b 16) (le-ltb a 16 ha)))) (omega arith)
 ]

@@ -1,6 +1,6 @@
 // How diagrams are built: exactly the cofactors of a result are inserted, each once.
 ghost use Rattle.std.specs.Prelude.{◌≡◌, ℕ, ◌+◌, ◌-◌, ◌<◌, ◌≤◌, OnErr};
-ghost use Rattle.effects.specs.Cells.{cell as cell_of, Small};
+ghost use Rattle.effects.specs.Cells.{cell as cell_of};
 ghost use Rattle.effects.specs.Tables.{bit};
 ghost use Rattle.tape.specs.Requests.{has, any as some, all as every_of};
 ghost use Rattle.diagram.specs.Counted.{Same};
@@ -10,7 +10,7 @@ ghost use Rattle.diagram.specs.Building.{Answer};
 ghost use Rattle.diagram.specs.Stores.{nodes, held, slots, meaning, Later, Outcome};
 
 use crate::store::{FACTS, Full, Store};
-use effects::cell;
+use effects::{CodeTable, cell};
 use probing::node::Node;
 
 // That a code is one of the store's, and what it tests, is asked by each function here: of a bare number no type can say it,
@@ -37,8 +37,7 @@ impl Store<'_> {
     }
 
     // The code of an operation on two codes that test no fact before `from`.
-    fn combine(&mut self, table: &[u8; 256], first: u16, second: u16, from: u8) -> Result<u16, Full>
-        requires small { Small table.now }
+    fn combine(&mut self, table: &CodeTable, first: u16, second: u16, from: u8) -> Result<u16, Full>
         requires first_below { first < 16 + held self.old }
         requires second_below { second < 16 + held self.old }
         requires from_below { from ≤ 32 }
@@ -46,11 +45,11 @@ impl Store<'_> {
         requires second_later { Neat 32 from (meant (nodes self.old) second) }
         ensures width { slots self.new ≡ slots self.old }
         ensures gives { Answer 32 (slots self.old) (nodes self.old) (nodes self.new)
-            (inserted (trees (nodes self.old)) (applied (cell_of table.now) (32 - from) from (meant (nodes self.old) first) (meant (nodes self.old) second)))
-            (applied (cell_of table.now) (32 - from) from (meant (nodes self.old) first) (meant (nodes self.old) second)) result }
+            (inserted (trees (nodes self.old)) (applied (cell_of table.now.cells) (32 - from) from (meant (nodes self.old) first) (meant (nodes self.old) second)))
+            (applied (cell_of table.now.cells) (32 - from) from (meant (nodes self.old) first) (meant (nodes self.old) second)) result }
     {
         if first < 16 && second < 16 {
-            return Ok(cell(table, first as u8, second as u8) as u16);
+            return Ok(cell(&table.cells, first as u8, second as u8) as u16);
         }
         let sides = self.split(first, second);
         let low = self.combine(table, sides.first.low, sides.second.low, sides.fact + 1)?;
@@ -119,10 +118,9 @@ impl Store<'_> {
     }
 
     // The code that has at every request what the table says of the meanings of two codes there.
-    pub fn apply(&mut self, table: &[u8; 256], first: u16, second: u16) -> Result<u16, Full>
-        requires small { Small table.now }
+    pub fn apply(&mut self, table: &CodeTable, first: u16, second: u16) -> Result<u16, Full>
         ensures later { Later self.old self.new }
-        ensures gives { (f g : ℕ → ℕ) → Same 32 (meaning self.old first) f → Same 32 (meaning self.old second) g → Outcome self.old (λ q. cell_of table.now (f q) (g q)) self.new result }
+        ensures gives { (f g : ℕ → ℕ) → Same 32 (meaning self.old first) f → Same 32 (meaning self.old second) g → Outcome self.old (λ q. cell_of table.now.cells (f q) (g q)) self.new result }
     {
         let a = self.known(first);
         let b = self.known(second);

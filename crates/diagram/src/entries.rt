@@ -5,6 +5,7 @@ ghost use Rattle.tape.specs.declared.refusal.Refusal.TheVariants.{NoSlot};
 ghost use Rattle.diagram.specs.Lasting.{store_lasts};
 
 use crate::store::{Full, Store};
+use effects::CodeTable;
 use tape::{Entries, Refusal};
 
 impl From<Full> for Refusal {
@@ -38,7 +39,7 @@ impl Entries for Store<'_> {
         Ok(Store::all(self, mask)?)
     }
 
-    fn apply(&mut self, table: &[u8; 256], first: u16, second: u16) -> Result<u16, Refusal> {
+    fn apply(&mut self, table: &CodeTable, first: u16, second: u16) -> Result<u16, Refusal> {
         Ok(Store::apply(self, table, first, second)?)
     }
 }

@@ -14,4 +14,4 @@ pub use decision::Decision;
 pub use four::FourEffect;
 pub use making::{cell, effect_tables, question_tables};
 pub use six::SixEffect;
-pub use tables::{EffectTables, QuestionTables};
+pub use tables::{CodeTable, EffectTables, QuestionTables};

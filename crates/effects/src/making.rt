@@ -1,11 +1,11 @@
 // The tables of an algebra.
-ghost use Rattle.std.specs.Prelude.{◌≡◌, ℕ, ◌+◌, ◌*◌, ◌<◌, ◌≤◌, false, if◌then◌else◌, [], Some, None, nat_lt, slice_index_or};
+ghost use Rattle.std.specs.Prelude.{◌≡◌, ℕ, ◌<◌, if◌then◌else◌, Some, None, nat_lt};
 ghost use Rattle.effects.specs.Codes.{codes, question_codes};
-ghost use Rattle.effects.specs.Cells.{cell as cell_of, Small, Holds};
+ghost use Rattle.effects.specs.Cells.{cell as cell_of, Holds};
 ghost use Rattle.effects.specs.Tables.{Combines, Answers, Tables, Asked};
 
 use crate::algebra::EffectAlgebra;
-use crate::tables::{EffectTables, QuestionTables};
+use crate::tables::{CodeTable, EffectTables, QuestionTables};
 use std::array;
 
 // What a table says of two codes; 0 where one of them is not below 16.
@@ -25,6 +25,15 @@ fn table<T, F: Fn(u8, u8) -> T>(cell: F) -> [T; 256]
     ensures { Holds (F.post cell) result }
 {
     array::from_fn(|n| cell((n / 16) as u8, (n % 16) as u8))
+}
+
+// The same of cells that are codes.
+fn code_table<F: Fn(u8, u8) -> u8>(cell: F) -> CodeTable
+    requires called { (a b : ℕ) → a < 16 → b < 16 → F.pre cell a b }
+    requires codes { (a b code : ℕ) → a < 16 → b < 16 → F.post cell a b code → code < 16 }
+    ensures { Holds (F.post cell) result.cells }
+{
+    CodeTable { cells: table(cell) }
 }
 
 // The effect of a code, if there is one.
@@ -50,24 +59,23 @@ pub fn effect_tables<A: EffectAlgebra>() -> EffectTables
             |effect| effect.statable(),
         )),
         // the value is both row and column
-        negation: table(|value, _| u8::from(value == 0)),
-        both: table(|first, second| u8::from(first == 1 && second == 1)),
-        either: table(|first, second| u8::from(first == 1 || second == 1)),
-        scope: table(|policy, condition| if condition == 1 {
+        negation: code_table(|value, _| u8::from(value == 0)),
+        both: code_table(|first, second| u8::from(first == 1 && second == 1)),
+        either: code_table(|first, second| u8::from(first == 1 || second == 1)),
+        scope: code_table(|policy, condition| if condition == 1 {
             policy
         } else {
             not_applicable
         }),
-        fail: table(|policy, condition| match effect::<A>(policy) {
+        fail: code_table(|policy, condition| match effect::<A>(policy) {
             Some(effect) if condition == 1 => effect.failed().code(),
             _ => policy,
         }),
         combine: [0, 1, 2, 3].map(
-            |combiner| -> [u8; 256]
-                ensures combined { Combines (codes A.EffectAlgebra.effects) combiner result }
-                ensures small { Small result }
+            |combiner| -> CodeTable
+                ensures { Combines (codes A.EffectAlgebra.effects) combiner result.cells }
             {
-                table(|first, second| match (effect::<A>(first), effect::<A>(second)) {
+                code_table(|first, second| match (effect::<A>(first), effect::<A>(second)) {
                     (Some(first), Some(second)) => A::combine(combiner, first, second).code(),
                     _ => 0,
                 })

@@ -1,12 +1,12 @@
 // The combiners as rows of codes, a row for each first effect, and the questions.
-use effects::{FourEffect, SixEffect, cell, effect_tables, question_tables};
+use effects::{CodeTable, FourEffect, SixEffect, cell, effect_tables, question_tables};
 use std::process::Abort;
 
 // Compares a table's first rows and columns with rows of codes.
-fn same_rows<const N: usize>(rt: &impl Abort, table: &[u8; 256], rows: &[[u8; N]; N]) {
+fn same_rows<const N: usize>(rt: &impl Abort, table: &CodeTable, rows: &[[u8; N]; N]) {
     for (first, row) in (0u8..).zip(rows) {
         for (second, code) in (0u8..).zip(row) {
-            assert_eq!(rt; cell(table, first, second), *code);
+            assert_eq!(rt; cell(&table.cells, first, second), *code);
         }
     }
 }
@@ -87,17 +87,17 @@ fn scope_and_fail(rt: HostRuntime) {
     let four = effect_tables::<FourEffect>();
     let six = effect_tables::<SixEffect>();
     for (code, stated) in (0u8..4).zip(four.statable) {
-        assert_eq!(rt; cell(&four.scope, code, 0), 0);
-        assert_eq!(rt; cell(&four.scope, code, 1), code);
-        assert_eq!(rt; cell(&four.fail, code, 0), code);
-        assert_eq!(rt; cell(&four.fail, code, 1), 3);
+        assert_eq!(rt; cell(&four.scope.cells, code, 0), 0);
+        assert_eq!(rt; cell(&four.scope.cells, code, 1), code);
+        assert_eq!(rt; cell(&four.fail.cells, code, 0), code);
+        assert_eq!(rt; cell(&four.fail.cells, code, 1), 3);
         assert_eq!(rt; stated, code == 1 || code == 2);
     }
     let failed = [0, 4, 3, 3, 4, 5];
     for ((code, stated), failed) in (0u8..6).zip(six.statable).zip(failed) {
-        assert_eq!(rt; cell(&six.scope, code, 0), 0);
-        assert_eq!(rt; cell(&six.fail, code, 0), code);
-        assert_eq!(rt; cell(&six.fail, code, 1), failed);
+        assert_eq!(rt; cell(&six.scope.cells, code, 0), 0);
+        assert_eq!(rt; cell(&six.fail.cells, code, 0), code);
+        assert_eq!(rt; cell(&six.fail.cells, code, 1), failed);
         assert_eq!(rt; stated, code == 1 || code == 2);
     }
 }

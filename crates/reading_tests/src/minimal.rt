@@ -43,5 +43,5 @@ fn questions_of_equal_effects(rt: HostRuntime) {
     assert!(rt; asked.breaks[0][34]);
     assert_eq!(rt; question_tables::<Single>().count, 0);
     let [only, _, _, _] = effect_tables::<Odd>().combine;
-    assert_eq!(rt; cell(&only, 2, 2), 0);
+    assert_eq!(rt; cell(&only.cells, 2, 2), 0);
 }

@@ -2,7 +2,7 @@
 use Rattle.std.specs.Prelude.{◌≡◌, ℕ, zero, suc, ◌+◌, ◌<◌, ◌≤◌, Bool, true, false, cond, not, ◌&&◌, ◌||◌, List, [], ◌∷◌, ◌++◌, length, drop, map, reverse, Ok, Err, Result, slice_index, slice_index_or}
 use Rattle.effects.specs.Cells.{cell}
 use Rattle.effects.specs.Codes.{Codes}
-use Rattle.effects.specs.Tables.{bit}
+use Rattle.effects.specs.Tables.{bit, combiner_cells}
 use Rattle.effects.specs.declared.tables.EffectTables.{EffectTables}
 use Rattle.tape.specs.Refusals.{at_place}
 use Rattle.tape.specs.Requests.{has, any, all}
@@ -59,7 +59,7 @@ of_tables t = record {
   statable = λ e. slice_index_or t.statable e false;
   failed = λ e. e;
   combiners = t.combiner_count;
-  combined = λ k a b. cell (slice_index_or t.combine k []) a b;
+  combined = λ k a b. cell (combiner_cells t k) a b;
 }
 
 -- what the tables make of a command, at a request
@@ -67,13 +67,13 @@ abbrev pub tabled : EffectTables → ℕ → Command → ℕ → ℕ → ℕ
 tabled t r (Has f) top under = bit (has f r)
 tabled t r (Any m) top under = bit (any m r)
 tabled t r (All m) top under = bit (all m r)
-tabled t r Not top under = cell t.negation top top
-tabled t r And top under = cell t.both under top
-tabled t r Or top under = cell t.either under top
+tabled t r Not top under = cell t.negation.cells top top
+tabled t r And top under = cell t.both.cells under top
+tabled t r Or top under = cell t.either.cells under top
 tabled t r (State e) top under = e
-tabled t r Scope top under = cell t.scope under top
-tabled t r Fail top under = cell t.fail under top
-tabled t r (Join k) top under = cell (slice_index_or t.combine k []) under top
+tabled t r Scope top under = cell t.scope.cells under top
+tabled t r Fail top under = cell t.fail.cells under top
+tabled t r (Join k) top under = cell (combiner_cells t k) under top
 tabled t r End top under = top
 
 -- the entry of a command, from the top entry and the one under it

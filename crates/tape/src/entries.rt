@@ -1,6 +1,6 @@
 // The rules, over what an entry is for the reader that runs them.
 ghost use Rattle.std.specs.Prelude.{ℕ, ◌<◌, ◌≤◌, false, length, IfOk};
-ghost use Rattle.effects.specs.Cells.{cell, Small};
+ghost use Rattle.effects.specs.Cells.{cell};
 ghost use Rattle.effects.specs.Codes.{Codes as Algebra, Closed};
 ghost use Rattle.effects.specs.Tables.{bit, Tables};
 ghost use Rattle.tape.specs.Requests.{has, any as some, all as every};
@@ -11,7 +11,7 @@ use crate::command::Command;
 use crate::refusal::{Refusal, RefusedAt};
 use crate::rules::Rules;
 use crate::stack::Stack;
-use effects::EffectTables;
+use effects::{CodeTable, EffectTables};
 
 // What an entry is for the reader that runs the rules: a value at one request, or something that
 // stands for the values at all of them. The model says for which requests an entry speaks, and with
@@ -47,13 +47,12 @@ pub trait Entries {
     // An entry that has everywhere what the table says of the values of two entries there.
     fn apply(
         &mut self,
-        table: &[u8; 256],
+        table: &CodeTable,
         first: Self::Entry,
         second: Self::Entry,
     ) -> Result<Self::Entry, Refusal>
-        requires { Small table.now }
         ensures kept { model.later self.old self.new }
-        ensures gives { (f g : ℕ → ℕ) → model.sense self.old first f → model.sense self.old second g → Gives model false self.old self.new (λ q. cell table.now (f q) (g q)) result };
+        ensures gives { (f g : ℕ → ℕ) → model.sense self.old first f → model.sense self.old second g → Gives model false self.old self.new (λ q. cell table.now.cells (f q) (g q)) result };
 }
 
 // The entry of a command, from the top entry and the one under it.

@@ -11,7 +11,7 @@ use crate::entries::Entries;
 use crate::refusal::{Refusal, RefusedAt};
 use crate::rules::Rules;
 use crate::stack::Stack;
-use effects::{EffectAlgebra, EffectTables};
+use effects::{CodeTable, EffectAlgebra, EffectTables};
 
 // The most bytes of a tape.
 pub const LONGEST_TAPE: usize = 65535;
@@ -39,8 +39,8 @@ impl Entries for AtRequest {
         Ok(u8::from(mask & self.request == mask))
     }
 
-    fn apply(&mut self, table: &[u8; 256], first: u8, second: u8) -> Result<u8, Refusal> {
-        Ok(effects::cell(table, first, second))
+    fn apply(&mut self, table: &CodeTable, first: u8, second: u8) -> Result<u8, Refusal> {
+        Ok(effects::cell(&table.cells, first, second))
     }
 }
 

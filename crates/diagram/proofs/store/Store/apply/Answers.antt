@@ -19,7 +19,6 @@ pub combine-made-requires : goal.combine-made-requires
 combine-made-requires c =
     let s = c.args.self.now in
     record {
-      small = c.requires.small;
       first_below = c.known-a.ensures.within;
       second_below = c.known-b.ensures.within;
       from_below = omega arith;
@@ -36,7 +35,7 @@ of_both s op a b first second ha hb ea eb f g ef eg =
 pub returns-then-is_err : goal.returns-then-is_err
 returns-then-is_err c =
     let s = c.args.self.now in
-    let op = cell c.args.table.now in
+    let op = cell c.args.table.now.cells in
     let A = meant (nodes s) c.known-a.result in
     let B = meant (nodes s) c.known-b.result in
     let w = c.roll_back.ensures.width ∙ c.combine-made.ensures.width in
@@ -52,7 +51,7 @@ returns-then-is_err c =
 pub returns-else-is_err : goal.returns-else-is_err
 returns-else-is_err c =
     let s = c.args.self.now in
-    let op = cell c.args.table.now in
+    let op = cell c.args.table.now.cells in
     let A = meant (nodes s) c.known-a.result in
     let B = meant (nodes s) c.known-b.result in
     let o = sym c.is_err.ensures.value ∙ c.if-is_err.false in
