@@ -1,12 +1,12 @@
 -- What a store has recorded, and how that moves.
-use Rattle.std.proofs.Common.{◌≡◌, ℕ, ◌≤◌, Bool, true, false, min, ltb, List, [], ◌∷◌, ◌++◌, map, length, take, Ok, Err, Result, sym, ap, ◌∙◌, subst, arith, length-take, length-take-le, take-take}
+use Rattle.std.proofs.Common.{◌≡◌, ℕ, ◌≤◌, true, false, min, ltb, List, [], ◌∷◌, ◌++◌, map, length, take, Ok, Err, Result, sym, ap, ◌∙◌, subst, arith, length-take, length-take-le, take-take}
 use Rattle.std.specs.Result.{OnErr, is_err}
 use Rattle.std.proofs.lemmas.Bool.{lt-ltb, le-ltb, true≢false, false≢true}
 use Rattle.probing.specs.declared.node.Node.{Node}
 use Rattle.diagram.specs.Cofactors.{count}
 use Rattle.diagram.specs.Counted.{Same, Each, Exists, Within, Ignores, CofactorOf, Lists}
 use Rattle.diagram.specs.Tree.{Tree, says, Neat, tree_of}
-use Rattle.diagram.specs.Nodes.{trees, functions, inserted, Good, Begins}
+use Rattle.diagram.specs.Nodes.{trees, functions, inserted, Begins}
 use Rattle.diagram.specs.Building.{Made, Refused, Answer}
 use Rattle.diagram.specs.Stores.{nodes, held, slots, Recorded, Means, Later, Unchanged, needed, full, Taken, TooMany, Outcome, Back}
 use Rattle.diagram.specs.declared.store.Full.{Full}

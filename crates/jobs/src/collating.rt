@@ -40,7 +40,9 @@ pub fn collate(heap: Global, job: &[u8]) -> Result<Vec<Line>, AllocError>
 {
     let job = parse(heap, job)?;
     let answers = answers_to(heap, &job.calls)?;
-    let refused = job.bad.map(|place| Line::Refused(Refusal::BadJob.at(place)));
+    let refused = job
+        .bad
+        .map(|place| Line::Refused(Refusal::BadJob.at(place)));
     answers
         .iter()
         .filter_map(|answer| line_of(*answer))

@@ -1,5 +1,5 @@
 -- What a table means: the list of its keys, the key of number n at place n.
-use Rattle.std.specs.Prelude.{ℕ, Bool, List, length, take}
+use Rattle.std.specs.Prelude.{ℕ, List, length, take}
 use Rattle.std.specs.declared.cmp.PartialEq.{Ghosts as Sameness}
 use Rattle.probing.specs.declared.Key.{Ghosts as Hashing}
 use Rattle.probing.specs.Kinds.{name_same, name_hashed}

@@ -1,5 +1,5 @@
 -- What the hostile algebra means.
-use Rattle.std.specs.Prelude.{ℕ, true, false, cond, ◌==◌}
+use Rattle.std.specs.Prelude.{ℕ, true, cond, ◌==◌}
 use Rattle.effects.specs.Effects.{Effects, Questions}
 use Rattle.reading_tests.specs.declared.hostile.Odd.{Odd}
 use Rattle.reading_tests.specs.declared.hostile.Odd.TheVariants.{Low, High, Silent}

@@ -1,11 +1,10 @@
 -- A whole tape read into a store.
-use Rattle.std.proofs.Common.{◌≡◌, ℕ, ◌+◌, ◌<◌, ◌≤◌, true, false, List, [], ◌∷◌, ◌++◌, length, get_or, drop, Ok, Err, Result, sym, refl, ap, ◌∙◌, subst, append-nil, is_some}
-use Rattle.std.proofs.lemmas.Bool.{cond-true, cond-false, false≢true}
+use Rattle.std.proofs.Common.{◌≡◌, ℕ, ◌<◌, ◌≤◌, true, false, List, [], ◌∷◌, ◌++◌, length, get_or, Ok, Err, Result, sym, refl, ap, ◌∙◌, subst, append-nil, is_some}
+use Rattle.std.proofs.lemmas.Bool.{false≢true}
 use Rattle.effects.specs.Codes.{Codes, QuestionCodes}
 use Rattle.effects.specs.declared.tables.EffectTables.{EffectTables}
 use Rattle.effects.specs.declared.tables.QuestionTables.{QuestionTables}
 use Rattle.probing.specs.Model.{NameTable}
-use Rattle.probing.specs.declared.name.Name.{Name}
 use Rattle.tape.specs.Entries.{Holds, Moved, Reads, entries_on, own_command}
 use Rattle.tape.specs.Tape.{Row, Tests, next_command, ended}
 use Rattle.tape.specs.declared.command.Command.{Command}

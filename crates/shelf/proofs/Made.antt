@@ -5,7 +5,6 @@ use Rattle.effects.specs.declared.tables.EffectTables.{EffectTables}
 use Rattle.effects.specs.declared.tables.QuestionTables.{QuestionTables}
 use Rattle.probing.specs.Kinds.{text}
 use Rattle.probing.specs.Model.{NameTable, keys, room}
-use Rattle.probing.specs.declared.name.Name.{Name}
 use Rattle.tape.specs.declared.stack.Stack.{Stack}
 use Rattle.diagram.specs.Stores.{held as held_by, slots, Recorded}
 use Rattle.diagram.specs.declared.store.Store.{Store}

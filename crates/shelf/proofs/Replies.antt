@@ -7,7 +7,6 @@ use Rattle.effects.specs.Codes.{Codes, QuestionCodes}
 use Rattle.effects.specs.declared.tables.EffectTables.{EffectTables}
 use Rattle.effects.specs.declared.tables.QuestionTables.{QuestionTables}
 use Rattle.probing.specs.Model.{NameTable}
-use Rattle.probing.specs.declared.name.Name.{Name}
 use Rattle.tape.specs.Refusals.{at_place}
 use Rattle.tape.specs.Tape.{Row, Tests, first_of, opening as at_opening, next_command, bytes_taken, ended}
 use Rattle.tape.specs.declared.command.Command.{Command}

@@ -1,5 +1,5 @@
 -- Names: the check of their bytes, and what declare and find answer at a catalogue.
-use Rattle.std.proofs.Common.{◌≡◌, ℕ, ◌+◌, ◌<◌, ◌≤◌, Bool, true, false, cond, not, ◌&&◌, leb, List, [], ◌∷◌, length, get_or, drop, is_some, Some, None, Ok, Err, Option, Result, sym, refl, ap, ◌∙◌, ⊎_elim, add-one, arith, drop_of_length-le, drop-cons}
+use Rattle.std.proofs.Common.{◌≡◌, ℕ, ◌<◌, ◌≤◌, Bool, true, false, cond, not, ◌&&◌, leb, [], ◌∷◌, length, is_some, Some, None, Ok, Err, Option, Result, sym, refl, ap, ◌∙◌, ⊎_elim, arith}
 use Rattle.std.proofs.lemmas.Bool.{cond-true, cond-false, le-leb, lt-leb, cases_lt}
 use Rattle.effects.specs.Codes.{Codes, QuestionCodes}
 use Rattle.effects.specs.declared.tables.EffectTables.{EffectTables}
@@ -13,7 +13,7 @@ use Rattle.tape.specs.declared.refusal.Refusal.{Refusal}
 use Rattle.tape.specs.declared.refusal.Refusal.TheVariants.{BadName, NamesFull}
 use Rattle.tape.specs.declared.stack.Stack.{Stack}
 use Rattle.diagram.specs.declared.store.Store.{Store}
-use Rattle.shelf.specs.Names.{name_byte, name_bytes, good_name, same_name}
+use Rattle.shelf.specs.Names.{good_name, same_name}
 use Rattle.shelf.specs.Catalogue.{Catalogue, facts, naming}
 use Rattle.shelf.specs.Calls.{number_of_name, fact_of, declare_answer, find_answer, after_declare}
 use Rattle.shelf.specs.Upholds.{Upholds}

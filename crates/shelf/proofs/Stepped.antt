@@ -1,10 +1,9 @@
 -- A command read into the open draft.
-use Rattle.std.proofs.Common.{◌≡◌, ℕ, ◌≤◌, true, List, ◌++◌, Ok, Err, Result, sym, ap, ◌∙◌, subst, Some, is_some}
+use Rattle.std.proofs.Common.{◌≡◌, ℕ, ◌≤◌, List, ◌++◌, Ok, Err, Result, sym, ap, ◌∙◌, subst, Some, is_some}
 use Rattle.effects.specs.Codes.{Codes, QuestionCodes}
 use Rattle.effects.specs.declared.tables.EffectTables.{EffectTables}
 use Rattle.effects.specs.declared.tables.QuestionTables.{QuestionTables}
 use Rattle.probing.specs.Model.{NameTable}
-use Rattle.probing.specs.declared.name.Name.{Name}
 use Rattle.tape.specs.Entries.{Holds, Moved, Stepped, own_command}
 use Rattle.tape.specs.Tape.{next_command, after, bytes_taken}
 use Rattle.tape.specs.declared.command.Command.{Command}

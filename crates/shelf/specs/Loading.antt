@@ -1,16 +1,10 @@
 -- A whole tape, as a shelf reads it.
-use Rattle.std.specs.Prelude.{◌≡◌, ℕ, true, false, List, [], ◌++◌, length, Ok, Err, Result}
+use Rattle.std.specs.Prelude.{ℕ, List, [], ◌++◌, length, Result}
 use Rattle.effects.specs.Codes.{Codes}
-use Rattle.tape.specs.Entries.{Holds}
-use Rattle.tape.specs.Tape.{Row, tape_from, ended}
+use Rattle.tape.specs.Tape.{Row, tape_from}
 use Rattle.tape.specs.declared.refusal.RefusedAt.{RefusedAt}
-use Rattle.tape.specs.declared.stack.Stack.{Stack}
-use Rattle.diagram.specs.Entries.{store_model}
-use Rattle.diagram.specs.Stores.{slots}
-use Rattle.diagram.specs.declared.store.Store.{Store}
 use Rattle.shelf.specs.Catalogue.{results}
 use Rattle.shelf.specs.Calls.{slot_tests}
-use Rattle.shelf.specs.Upholds.{Storing, Fed}
 
 -- the commands of a tape as a row, or the first refusal, after the results Fs over n facts and in so many slots
 abbrev pub read_row : Codes → ℕ → ℕ → List (ℕ → ℕ) → List ℕ → Result Row RefusedAt

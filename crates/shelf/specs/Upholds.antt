@@ -6,7 +6,6 @@ use Rattle.effects.specs.declared.tables.EffectTables.{EffectTables}
 use Rattle.effects.specs.declared.tables.QuestionTables.{QuestionTables}
 use Rattle.probing.specs.Kinds.{text}
 use Rattle.probing.specs.Model.{NameTable, keys, room}
-use Rattle.probing.specs.declared.name.Name.{Name}
 use Rattle.tape.specs.Entries.{Holds}
 use Rattle.tape.specs.Tape.{Row, values, result, ended}
 use Rattle.tape.specs.declared.stack.Stack.{Stack}

@@ -22,7 +22,9 @@ pub fn is_good(name: &Name) -> bool
     ensures { result ≡ good_name name.now }
 {
     (1..=16).contains(&name.len)
-        && name.bytes[..name.len as usize].iter().all(|b| is_name_byte(*b))
+        && name.bytes[..name.len as usize]
+            .iter()
+            .all(|b| is_name_byte(*b))
 }
 
 impl Shelf<'_> {

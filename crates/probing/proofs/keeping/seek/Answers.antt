@@ -1,4 +1,4 @@
-use Rattle.std.proofs.Common.{◌<◌, length, get_or, sym, arith}
+use Rattle.std.proofs.Common.{get_or, sym, arith}
 use Rattle.probing.proofs.Places.{holds_read}
 use Rattle.probing.proofs.Slots.{serial_read, long_serials}
 use Rattle.probing.proofs.Seeking.{as_ring, passed_more, passed_all, led, other_here, there_here}

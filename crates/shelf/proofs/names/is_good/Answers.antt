@@ -9,7 +9,7 @@ pub returns-then-contains : goal.returns-then-contains
 returns-then-contains c =
     let name = c.args.name.now in
     let all : c.all.result ≡ list_all name_byte (take name.len name.bytes) =
-        all_from_yields_List name_byte _ _ c.all.result c.all.ensures.ran (YieldsList-from_slice (take name.len name.bytes) cc) (λ x b q k. search (rules, tests))
+    all_from_yields_List name_byte _ _ c.all.result c.all.ensures.ran (YieldsList-from_slice (take name.len name.bytes) cc) (λ x b q k. search (rules, tests))
     in
     let few : name.len ≤ 16 = search rules in
     let some : 1 ≤ name.len = search rules in

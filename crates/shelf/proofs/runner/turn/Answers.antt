@@ -1,4 +1,4 @@
-use Rattle.std.proofs.Common.{◌≡◌, ℕ, Ok, Err, Result, sym, refl, ap, ◌∙◌, subst, rules}
+use Rattle.std.proofs.Common.{◌≡◌, Ok, Err, Result, sym, refl, ap, ◌∙◌, subst, rules}
 use Rattle.tape.specs.declared.refusal.Refusal.{Refusal}
 use Rattle.shelf.specs.Calls.{declare_answer, open_answer, feed_answer, file_answer, abandon_answer, ask_answer, shape_answer}
 use Rattle.shelf.specs.Drafts.{given_out, handed_on, handed_back}

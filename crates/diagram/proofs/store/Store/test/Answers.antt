@@ -1,11 +1,10 @@
 use Rattle.std.proofs.Common.{◌<◌, sym, refl, ◌∙◌, arith}
 use Rattle.std.proofs.lemmas.Result.{err_from_is_err_and}
 use Rattle.probing.specs.Model.{keys}
-use Rattle.diagram.specs.Building.{Answer}
 use Rattle.diagram.specs.Stores.{nodes, slots}
 use Rattle.diagram.specs.Lasting.{held_slots}
 use Rattle.diagram.proofs.Records.{good}
-use Rattle.diagram.proofs.Steps.{made_same, made_some, made_none, good_after, numbered_below, none_still}
+use Rattle.diagram.proofs.Steps.{made_same, made_some, made_none, good_after, numbered_below}
 use Rattle.diagram.proofs.store.Store.test.Goals as goal
 
 pub returns-then-low-high : goal.returns-then-low-high

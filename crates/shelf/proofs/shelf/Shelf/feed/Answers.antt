@@ -1,4 +1,4 @@
-use Rattle.std.proofs.Common.{sym, refl, ap, ◌∙◌, lit<, not}
+use Rattle.std.proofs.Common.{sym, refl, ap, ◌∙◌, not}
 use mathlib.Core.Logic.{∥∥₁_map}
 use Rattle.shelf.specs.Drafts.{handed_on}
 use Rattle.shelf.proofs.Replies.{owned, feed_foreign, feed_by, same_shapes}

@@ -42,7 +42,7 @@ returns-in-Err-read_all c =
           let m = may_open u t in
           let n = c.facts-facts.ensures.number ∙ sym (facts_are u) in
           let e = read_refused K c.facts-facts.result c.facts-facts.ensures.few (all_results K cat) c.args.tape.now c.args.self.now.store c.empty-stack.result (storing_all u c.facts-facts.result n) c.empty-stack.ensures.bare c.empty-stack.ensures.unended c.read_all.new.on c.read_all.new.stack c.in-Err-read_all.refused
-              (c.in-Err-read_all.ensures.reads K [] u.algebra.closed u.algebra.tables_are (from_empty K c.facts-facts.result c.facts-facts.ensures.few (all_results K cat) c.args.tape.now c.args.self.now.store c.empty-stack.result (storing_all u c.facts-facts.result n) c.empty-stack.ensures.bare c.empty-stack.ensures.unended)) in
+          (c.in-Err-read_all.ensures.reads K [] u.algebra.closed u.algebra.tables_are (from_empty K c.facts-facts.result c.facts-facts.ensures.few (all_results K cat) c.args.tape.now c.args.self.now.store c.empty-stack.result (storing_all u c.facts-facts.result n) c.empty-stack.ensures.bare c.empty-stack.ensures.unended)) in
           let a = load_read u c.args.tape.now (Err c.in-Err-read_all.refused) c.if-tape-gt-LONGEST_TAPE.false t (row_is u c.facts-facts.result n c.args.tape.now _ e) in
           (sym a.0, record { stands = at_catalogue (undone u c.facts-facts.result n c.roll_back.new.self m.0 back) a.1; stay = λ p h k. same_shapes _ _ p refl });
     }
@@ -61,7 +61,7 @@ invariant_of-self-2 c = record {
       let m = may_open u (sym (c.in_default.ensures K k.1.0 k.1.1.0 u)) in
       let n = c.facts-facts.ensures.number ∙ sym (facts_are u) in
       let l = read_whole K c.facts-facts.result c.facts-facts.ensures.few (all_results K k.1.1.0) c.args.tape.now c.args.self.now.store c.empty-stack.result (storing_all u c.facts-facts.result n) c.empty-stack.ensures.bare c.empty-stack.ensures.unended c.read_all.new.on c.read_all.new.stack _
-          (c.in_default-read_all.ensures.reads K [] u.algebra.closed u.algebra.tables_are (from_empty K c.facts-facts.result c.facts-facts.ensures.few (all_results K k.1.1.0) c.args.tape.now c.args.self.now.store c.empty-stack.result (storing_all u c.facts-facts.result n) c.empty-stack.ensures.bare c.empty-stack.ensures.unended)) in
+      (c.in_default-read_all.ensures.reads K [] u.algebra.closed u.algebra.tables_are (from_empty K c.facts-facts.result c.facts-facts.ensures.few (all_results K k.1.1.0) c.args.tape.now c.args.self.now.store c.empty-stack.result (storing_all u c.facts-facts.result n) c.empty-stack.ensures.bare c.empty-stack.ensures.unended)) in
       (K, (k.1.0, (_, in_state (filed_row u c.facts-facts.result n c.read_all.new.on c.read_all.new.stack l.0 c.top.result c.read_all.ensures.kept m.0 m.1 l.1.1 c.top.ensures) c.file.ensures))));
 }
 
@@ -76,7 +76,7 @@ returns c = record {
       let m = may_open u t in
       let n = c.facts-facts.ensures.number ∙ sym (facts_are u) in
       let l = read_whole K c.facts-facts.result c.facts-facts.ensures.few (all_results K cat) c.args.tape.now c.args.self.now.store c.empty-stack.result (storing_all u c.facts-facts.result n) c.empty-stack.ensures.bare c.empty-stack.ensures.unended c.read_all.new.on c.read_all.new.stack _
-          (c.in_default-read_all.ensures.reads K [] u.algebra.closed u.algebra.tables_are (from_empty K c.facts-facts.result c.facts-facts.ensures.few (all_results K cat) c.args.tape.now c.args.self.now.store c.empty-stack.result (storing_all u c.facts-facts.result n) c.empty-stack.ensures.bare c.empty-stack.ensures.unended)) in
+      (c.in_default-read_all.ensures.reads K [] u.algebra.closed u.algebra.tables_are (from_empty K c.facts-facts.result c.facts-facts.ensures.few (all_results K cat) c.args.tape.now c.args.self.now.store c.empty-stack.result (storing_all u c.facts-facts.result n) c.empty-stack.ensures.bare c.empty-stack.ensures.unended)) in
       let w = in_state (filed_row u c.facts-facts.result n c.read_all.new.on c.read_all.new.stack l.0 c.top.result c.read_all.ensures.kept m.0 m.1 l.1.1 c.top.ensures) c.file.ensures in
       let a = load_read u c.args.tape.now (Ok l.0) c.if-tape-gt-LONGEST_TAPE.false t (row_is u c.facts-facts.result n c.args.tape.now _ l.1.0) in (
         (λ i. Ok ((c.len-policy.ensures.value ∙ sym u.filing.are) i, (c.held.ensures.number ∙ held_is w) i)) ∙ sym a.0,

@@ -1,4 +1,4 @@
-use Rattle.std.proofs.Common.{◌≡◌, ℕ, ◌≤◌, arith, ltb, leb, List, length, get_or, [], ◌∷◌, Bor, is_some, Some, None, Option, Ok, sym, ap, ◌∙◌}
+use Rattle.std.proofs.Common.{◌≡◌, ℕ, arith, leb, List, length, get_or, [], ◌∷◌, Bor, Some, None, Option, Ok, sym, ap, ◌∙◌}
 use Rattle.std.specs.Option.{option_copied, ok_or}
 use Rattle.std.specs.Slice.{IsItemAt}
 use Rattle.std.proofs.lemmas.Bool.{cond-true, cond-false, ltb-true, ltb-false, lt-leb, le-leb}
