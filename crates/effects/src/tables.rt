@@ -10,8 +10,8 @@ pub struct CodeTable {
     ghost small: { Small cells },
 }
 
-// The operations of an algebra, as tables of codes. All four combiners have a
-// table, so that one is read by its number alone; an ArrayVec would want a test of its length there.
+// The operations of an algebra, as tables of codes. All four combiners have a table, so that one is read by its number
+// alone; an ArrayVec would want a test of its length there.
 #[derive(Clone, Copy)]
 pub struct EffectTables {
     pub count: u8,
