@@ -1,5 +1,5 @@
 // What the crate does on examples.
-ghost use Rattle.std.specs.Prelude.{◌≡◌, ◌<◌, length, ◌==◌};
+ghost use Rattle.std.specs.Prelude.{◌≡◌, ℕ, ◌<◌, length, ◌==◌};
 ghost use Rattle.probing.specs.Kinds.{no_pair};
 ghost use Rattle.probing.specs.Table.{wiped};
 ghost use Rattle.std.proofs.Common.{rules};
@@ -10,6 +10,7 @@ use probing::node::Node;
 use probing::pair::Pair;
 use probing::table::Table;
 use probing::{Key, Slot};
+use std::process::Abort;
 use std::test::Fail;
 
 // Junk, as lent memory may hold it.
@@ -205,17 +206,29 @@ fn node(i: u16) -> Node
     }
 }
 
+// How many buckets searches for 2,048 keys look at, once these are in the table.
+fn looked_at<K: Key, F: Fn(u16) -> K>(rt: &impl Abort, slots: &mut [Slot<K>], key: F) -> usize
+where
+    K: Default,
+    requires narrow { length slots.old < 65536 }
+    requires called { (i : ℕ) → i < 2048 → F.pre key i }
+{
+    let mut table = Table::new(&mut *slots, K::default());
+    for i in 0..2048 {
+        assert_eq!(rt; table.insert(key(i)), Some(i as usize));
+    }
+    let mut total = 0usize;
+    for i in 0..2048 {
+        total = total.wrapping_add(probes(slots, &key(i)));
+    }
+    total
+}
+
 // Half of 4096 slots are taken. A hash that spread at random would have a search for a key look at 1.5 buckets in the mean.
 #[test]
-fn nodes_spread(rt: HostRuntime) -> Result<(), Fail> {
-    let mut slots = [Slot::default(); 4096];
-    let mut table = Table::new(&mut slots, Node::default());
-    for i in 0..2048 {
-        assert_eq!(rt; table.insert(node(i)), Some(i as usize));
-    }
-    let total = (0..2048).fold(0usize, |sum, i| sum.wrapping_add(probes(&slots, &node(i))));
+fn nodes_spread(rt: HostRuntime) {
+    let total = looked_at(&rt, &mut [Slot::default(); 4096], node);
     assert_eq!(rt; total, 3031, "1.48 buckets to a key");
-    Ok(())
 }
 
 // name0000, name0001 and on.
@@ -230,13 +243,7 @@ fn name(i: u16) -> Name {
 
 // The same with half of 4099 slots, a prime number of them.
 #[test]
-fn names_spread(rt: HostRuntime) -> Result<(), Fail> {
-    let mut slots = [Slot::default(); 4099];
-    let mut table = Table::new(&mut slots, Name::default());
-    for i in 0..2048 {
-        assert_eq!(rt; table.insert(name(i)), Some(i as usize));
-    }
-    let total = (0..2048).fold(0usize, |sum, i| sum.wrapping_add(probes(&slots, &name(i))));
+fn names_spread(rt: HostRuntime) {
+    let total = looked_at(&rt, &mut [Slot::default(); 4099], name);
     assert_eq!(rt; total, 3050, "1.49 buckets to a key");
-    Ok(())
 }
