@@ -7,7 +7,7 @@ use probing::Slot;
 use probing::node::Node;
 use probing::pair::Pair;
 use std::test::Fail;
-use tape::{Refusal, RefusedAt, Rules, Stack};
+use tape::{RefusedAt, Rules, Stack};
 
 // Slots with left-overs in them.
 const JUNK: Slot<Node> = Slot {
@@ -158,8 +158,8 @@ fn refused_for_want_of_a_slot(rt: HostRuntime) {
     let mut store = Store::new(&mut slots);
     let tape = [0x01, 0, 0x01, 1, 0x06];
     assert_eq!(rt;
-        load(&mut store, &tables, 2, &tape),
-        Err(Refusal::NoSlot.at(4))
+        load(&mut store, &tables, 2, &tape).map_err(|at| (at.refusal.number(), at.place)),
+        Err((39, 4))
     );
     assert_eq!(rt; store.held(), 2);
 }

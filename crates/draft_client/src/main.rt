@@ -85,8 +85,7 @@ fn permit_faculty(shelf: &mut Shelf) -> Result<u8, Refusal> {
     let draft = write(shelf, draft, &[0x01, 0])?;
     let draft = write(shelf, draft, &[0x11])?;
     let draft = write(shelf, draft, &[0x1F])?;
-    let policy = finish(shelf, draft)?;
-    Ok(policy)
+    finish(shelf, draft)
 }
 
 fn print_policy(rt: &HostRuntime, shelf: &Shelf, policy: u8) -> anyhow::Result<()> {

@@ -7,6 +7,7 @@ use effects::EffectAlgebra;
 
 // Three effects, of which the last is not applicable; joining an effect with itself gives another one, and
 // the one question is broken by every pair.
+// (`shelf_tests` has another one: each crate's tests state the values of its own.)
 #[derive(Clone, Copy)]
 pub enum Odd {
     Low = 0,

@@ -2,7 +2,8 @@
 use effects::EffectAlgebra;
 use tape::read;
 
-// What a tape answers at a request, or the number of its refusal and the place.
+// What a tape answers at a request, or the number of its refusal and the place. By numbers, since those are the promise that tests
+// are to hold; the names would hold no number.
 pub(crate) fn told<A: EffectAlgebra>(
     facts: u8,
     tape: &[u8],

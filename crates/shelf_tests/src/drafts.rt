@@ -243,13 +243,13 @@ fn filed_after_it_was_abandoned(rt: HostRuntime) -> Result<(), Fail> {
     let mut names = [OLD_NAME; 3];
     let mut shelf = Shelf::make::<FourEffect>(7, &mut nodes, &mut names);
     declare_three(&rt, &mut shelf);
-    loads(&rt, &mut shelf, &TAPE_B, 0, 4)?;
-    loads(&rt, &mut shelf, &TAPE_D, 1, 6)?;
+    loads(&rt, &mut shelf, &TAPE_B, 0, 4);
+    loads(&rt, &mut shelf, &TAPE_D, 1, 6);
     let alone = shelf.shape(1)?;
     drop(shelf);
     let mut shelf = Shelf::make::<FourEffect>(7, &mut nodes, &mut names);
     declare_three(&rt, &mut shelf);
-    loads(&rt, &mut shelf, &TAPE_B, 0, 4)?;
+    loads(&rt, &mut shelf, &TAPE_B, 0, 4);
     follows::<FourEffect>(
         &rt,
         &mut shelf,
@@ -274,7 +274,7 @@ fn at_most_64_policies(rt: HostRuntime) -> Result<(), Fail> {
     let mut names = [OLD_NAME; 1];
     let mut shelf = Shelf::make::<FourEffect>(7, &mut nodes, &mut names);
     for policy in 0..63 {
-        loads(&rt, &mut shelf, &PERMIT, policy, 0)?;
+        loads(&rt, &mut shelf, &PERMIT, policy, 0);
     }
     follows::<FourEffect>(
         &rt,

@@ -7,6 +7,7 @@ use effects::EffectAlgebra;
 
 // Four effects, of which the last is not applicable; joining an effect with itself gives another one, and
 // the one question is broken by two equal effects.
+// (`reading_tests` has another one: each crate's tests state the values of its own.)
 #[derive(Clone, Copy, PartialEq, Eq)]
 pub enum Odd {
     Low = 0,

@@ -20,24 +20,10 @@ fn of_byte(b: u8) -> Name {
     Name { len: 1, bytes }
 }
 
-fn declares(rt: &impl Abort, shelf: &mut Shelf, name: Name, fact: u8) -> Result<(), Fail> {
-    match shelf.declare(&name) {
-        Ok(answer) => {
-            assert_eq!(rt; answer, fact);
-            Ok(())
-        },
-        Err(_) => Err(Fail::new("the name was refused")),
-    }
-}
-
-fn refuses(rt: &impl Abort, shelf: &mut Shelf, name: Name, number: u8) -> Result<(), Fail> {
-    match shelf.declare(&name) {
-        Ok(_) => Err(Fail::new("the name was declared")),
-        Err(refusal) => {
-            assert_eq!(rt; refusal.number(), number);
-            Ok(())
-        },
-    }
+// Wants a name declared as the fact, or refused.
+fn declares(rt: &impl Abort, shelf: &mut Shelf, name: Name, wanted: Result<u8, u8>) {
+    let came = shelf.declare(&name).map_err(|refusal| refusal.number());
+    assert_eq!(rt; came, wanted);
 }
 
 #[test]
@@ -45,11 +31,11 @@ fn lengths(rt: HostRuntime) -> Result<(), Fail> {
     let mut nodes = [OLD_NODE; 1];
     let mut names = [OLD_NAME; 8];
     let mut shelf = Shelf::make::<FourEffect>(7, &mut nodes, &mut names);
-    refuses(&rt, &mut shelf, lettered(0), 10)?;
-    declares(&rt, &mut shelf, lettered(1), 0)?;
-    declares(&rt, &mut shelf, lettered(16), 1)?;
-    refuses(&rt, &mut shelf, lettered(17), 10)?;
-    refuses(&rt, &mut shelf, lettered(255), 10)?;
+    declares(&rt, &mut shelf, lettered(0), Err(10));
+    declares(&rt, &mut shelf, lettered(1), Ok(0));
+    declares(&rt, &mut shelf, lettered(16), Ok(1));
+    declares(&rt, &mut shelf, lettered(17), Err(10));
+    declares(&rt, &mut shelf, lettered(255), Err(10));
     assert_eq!(rt; shelf.find(&lettered(16)), Some(1));
     assert_eq!(rt; shelf.find(&lettered(17)), None);
     assert_eq!(rt; shelf.find(&lettered(0)), None);
@@ -78,10 +64,10 @@ fn bad_bytes_are_refused(rt: HostRuntime) -> Result<(), Fail> {
     let mut nodes = [OLD_NODE; 1];
     let mut names = [OLD_NAME; 8];
     let mut shelf = Shelf::make::<FourEffect>(7, &mut nodes, &mut names);
-    refuses(&rt, &mut shelf, of_byte(b'/'), 10)?;
+    declares(&rt, &mut shelf, of_byte(b'/'), Err(10));
     assert_eq!(rt; shelf.find(&of_byte(b'/')), None);
     assert_eq!(rt; shelf.find(&of_byte(b'.')), None);
-    declares(&rt, &mut shelf, of_byte(b'.'), 0)?;
+    declares(&rt, &mut shelf, of_byte(b'.'), Ok(0));
     assert_eq!(rt; shelf.find(&of_byte(b'.')), Some(0));
     Ok(())
 }
@@ -96,11 +82,11 @@ fn equal_names(rt: HostRuntime) -> Result<(), Fail> {
     padded.bytes[15] = 0xFF;
     let mut capital = FACULTY;
     capital.bytes[0] = b'F';
-    declares(&rt, &mut shelf, FACULTY, 0)?;
-    declares(&rt, &mut shelf, padded, 0)?;
+    declares(&rt, &mut shelf, FACULTY, Ok(0));
+    declares(&rt, &mut shelf, padded, Ok(0));
     assert_eq!(rt; shelf.find(&padded), Some(0));
     assert_eq!(rt; shelf.find(&capital), None);
-    declares(&rt, &mut shelf, capital, 1)?;
+    declares(&rt, &mut shelf, capital, Ok(1));
     assert_eq!(rt; shelf.find(&FACULTY), Some(0));
     Ok(())
 }
@@ -110,14 +96,15 @@ fn full(rt: HostRuntime) -> Result<(), Fail> {
     let mut nodes = [OLD_NODE; 1];
     let mut names = [OLD_NAME; 2];
     let mut shelf = Shelf::make::<FourEffect>(7, &mut nodes, &mut names);
-    declares(&rt, &mut shelf, STUDENT, 0)?;
-    declares(&rt, &mut shelf, FACULTY, 1)?;
-    refuses(&rt, &mut shelf, ASSIGN, 11)?;
-    declares(&rt, &mut shelf, STUDENT, 0)?;
-    declares(&rt, &mut shelf, FACULTY, 1)?;
+    declares(&rt, &mut shelf, STUDENT, Ok(0));
+    declares(&rt, &mut shelf, FACULTY, Ok(1));
+    declares(&rt, &mut shelf, ASSIGN, Err(11));
+    declares(&rt, &mut shelf, STUDENT, Ok(0));
+    declares(&rt, &mut shelf, FACULTY, Ok(1));
     assert_eq!(rt; shelf.find(&ASSIGN), None);
     // a bad name is a bad name first
-    refuses(&rt, &mut shelf, lettered(17), 10)
+    declares(&rt, &mut shelf, lettered(17), Err(10));
+    Ok(())
 }
 
 #[test]
@@ -125,7 +112,7 @@ fn no_name_slots(rt: HostRuntime) -> Result<(), Fail> {
     let mut nodes = [OLD_NODE; 1];
     let mut names = [OLD_NAME; 0];
     let mut shelf = Shelf::make::<FourEffect>(7, &mut nodes, &mut names);
-    refuses(&rt, &mut shelf, STUDENT, 11)?;
+    declares(&rt, &mut shelf, STUDENT, Err(11));
     assert_eq!(rt; shelf.find(&STUDENT), None);
     Ok(())
 }
@@ -136,10 +123,10 @@ fn at_most_32(rt: HostRuntime) -> Result<(), Fail> {
     let mut names = [OLD_NAME; 40];
     let mut shelf = Shelf::make::<FourEffect>(7, &mut nodes, &mut names);
     for n in 0..32 {
-        declares(&rt, &mut shelf, numbered(n), n)?;
+        declares(&rt, &mut shelf, numbered(n), Ok(n));
     }
-    refuses(&rt, &mut shelf, numbered(32), 11)?;
-    declares(&rt, &mut shelf, numbered(31), 31)?;
+    declares(&rt, &mut shelf, numbered(32), Err(11));
+    declares(&rt, &mut shelf, numbered(31), Ok(31));
     assert_eq!(rt; shelf.find(&numbered(0)), Some(0));
     Ok(())
 }

@@ -30,9 +30,9 @@ fn comparisons(rt: HostRuntime) -> Result<(), Fail> {
     let mut names = [OLD_NAME; 3];
     let mut shelf = Shelf::make::<FourEffect>(7, &mut nodes, &mut names);
     declare_three(&rt, &mut shelf);
-    loads(&rt, &mut shelf, &TAPE_A, 0, 1)?;
-    loads(&rt, &mut shelf, &TAPE_B, 1, 4)?;
-    loads(&rt, &mut shelf, &TAPE_D, 2, 6)?;
+    loads(&rt, &mut shelf, &TAPE_A, 0, 1);
+    loads(&rt, &mut shelf, &TAPE_B, 1, 4);
+    loads(&rt, &mut shelf, &TAPE_D, 2, 6);
     part(
         &rt,
         &shelf,
@@ -74,7 +74,7 @@ fn refused_comparisons(rt: HostRuntime) -> Result<(), Fail> {
     let mut scratch = [OLD_PAIR; 3];
     compares(&rt, &shelf, 0, 0, 0, &mut scratch, Err(50));
     declare_three(&rt, &mut shelf);
-    loads(&rt, &mut shelf, &TAPE_A, 0, 1)?;
+    loads(&rt, &mut shelf, &TAPE_A, 0, 1);
     compares(&rt, &shelf, 0, 1, 0, &mut [OLD_PAIR; 3], Err(50));
     compares(&rt, &shelf, 1, 0, 0, &mut [OLD_PAIR; 3], Err(50));
     compares(&rt, &shelf, 0, 255, 6, &mut [OLD_PAIR; 3], Err(50));
@@ -92,11 +92,11 @@ fn in_the_request_order(rt: HostRuntime) -> Result<(), Fail> {
     let mut names = [OLD_NAME; 3];
     let mut shelf = Shelf::make::<FourEffect>(7, &mut nodes, &mut names);
     declare_three(&rt, &mut shelf);
-    loads(&rt, &mut shelf, &PERMIT, 0, 0)?;
+    loads(&rt, &mut shelf, &PERMIT, 0, 0);
     let guarded = [0x10, 1, 0x02, 6, 0, 0, 0, 0x04, 0x11, 0x1F];
     assert!(rt; shelf.load(&guarded).is_ok());
-    asked(&rt, &shelf, 1, 2, Ok(0))?;
-    asked(&rt, &shelf, 1, 4, Ok(0))?;
+    asked(&rt, &shelf, 1, 2, Ok(0));
+    asked(&rt, &shelf, 1, 4, Ok(0));
     compares(&rt, &shelf, 0, 1, 1, &mut [OLD_PAIR; 3], Ok(Some(4)));
     compares(&rt, &shelf, 1, 0, 1, &mut [OLD_PAIR; 3], Ok(None));
     Ok(())
@@ -108,13 +108,13 @@ fn asking(rt: HostRuntime) -> Result<(), Fail> {
     let mut names = [OLD_NAME; 3];
     let mut shelf = Shelf::make::<FourEffect>(7, &mut nodes, &mut names);
     declare_three(&rt, &mut shelf);
-    asked(&rt, &shelf, 0, 8, Err(50))?;
-    loads(&rt, &mut shelf, &TAPE_A, 0, 1)?;
-    asked(&rt, &shelf, 0, 7, Ok(1))?;
-    asked(&rt, &shelf, 0, 8, Err(52))?;
-    asked(&rt, &shelf, 0, 0xFFFF_FFFF, Err(52))?;
-    asked(&rt, &shelf, 1, 8, Err(50))?;
-    asked(&rt, &shelf, 255, 0, Err(50))?;
+    asked(&rt, &shelf, 0, 8, Err(50));
+    loads(&rt, &mut shelf, &TAPE_A, 0, 1);
+    asked(&rt, &shelf, 0, 7, Ok(1));
+    asked(&rt, &shelf, 0, 8, Err(52));
+    asked(&rt, &shelf, 0, 0xFFFF_FFFF, Err(52));
+    asked(&rt, &shelf, 1, 8, Err(50));
+    asked(&rt, &shelf, 255, 0, Err(50));
     assert!(rt; shelf.shape(1).is_err());
     Ok(())
 }
@@ -124,10 +124,11 @@ fn no_facts(rt: HostRuntime) -> Result<(), Fail> {
     let mut nodes = [OLD_NODE; 1];
     let mut names = [OLD_NAME; 1];
     let mut shelf = Shelf::make::<FourEffect>(7, &mut nodes, &mut names);
-    loads(&rt, &mut shelf, &PERMIT, 0, 0)?;
-    asked(&rt, &shelf, 0, 0, Ok(1))?;
-    asked(&rt, &shelf, 0, 1, Err(52))?;
-    refuses_tape(&rt, &mut shelf, &[0x01, 0], 32, 0)
+    loads(&rt, &mut shelf, &PERMIT, 0, 0);
+    asked(&rt, &shelf, 0, 0, Ok(1));
+    asked(&rt, &shelf, 0, 1, Err(52));
+    refuses_tape(&rt, &mut shelf, &[0x01, 0], 32, 0);
+    Ok(())
 }
 
 #[test]
@@ -138,13 +139,13 @@ fn all_32_facts(rt: HostRuntime) -> Result<(), Fail> {
     for n in 0..32 {
         assert!(rt; shelf.declare(&numbered(n)).is_ok());
     }
-    loads(&rt, &mut shelf, &[0x10, 1, 0x01, 0x1F, 0x11, 0x1F], 0, 1)?;
-    asked(&rt, &shelf, 0, 0xFFFF_FFFF, Ok(1))?;
-    asked(&rt, &shelf, 0, 0x7FFF_FFFF, Ok(0))?;
+    loads(&rt, &mut shelf, &[0x10, 1, 0x01, 0x1F, 0x11, 0x1F], 0, 1);
+    asked(&rt, &shelf, 0, 0xFFFF_FFFF, Ok(1));
+    asked(&rt, &shelf, 0, 0x7FFF_FFFF, Ok(0));
     let all = [0x10, 1, 0x03, 0xFF, 0xFF, 0xFF, 0xFF, 0x11, 0x1F];
-    loads(&rt, &mut shelf, &all, 1, 32)?;
-    asked(&rt, &shelf, 1, 0xFFFF_FFFF, Ok(1))?;
-    asked(&rt, &shelf, 1, 0xFFFF_FFFE, Ok(0))?;
+    loads(&rt, &mut shelf, &all, 1, 32);
+    asked(&rt, &shelf, 1, 0xFFFF_FFFF, Ok(1));
+    asked(&rt, &shelf, 1, 0xFFFF_FFFE, Ok(0));
     compares(
         &rt,
         &shelf,
@@ -154,5 +155,6 @@ fn all_32_facts(rt: HostRuntime) -> Result<(), Fail> {
         &mut [OLD_PAIR; 3],
         Ok(Some(0x8000_0000)),
     );
-    refuses_tape(&rt, &mut shelf, &[0x10, 1, 0x01, 0x20], 32, 2)
+    refuses_tape(&rt, &mut shelf, &[0x10, 1, 0x01, 0x20], 32, 2);
+    Ok(())
 }

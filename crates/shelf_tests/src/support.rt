@@ -81,7 +81,7 @@ pub enum Said {
     RefusedAt(u8, usize),
 }
 
-// The numbers are what a client sees, so the tests say them, and not the refusals that have them.
+// By numbers: they are what is promised to a client, and a test that named the refusals would not hold a number.
 impl From<Answer> for Said {
     fn from(answer: Answer) -> Said {
         match answer {
@@ -142,59 +142,26 @@ pub fn numbered(n: u8) -> Name {
 }
 
 // Wants a tape filed as the policy, with so much held then.
-pub fn loads(
-    rt: &impl Abort,
-    shelf: &mut Shelf,
-    tape: &[u8],
-    policy: u8,
-    held: usize,
-) -> Result<(), Fail> {
-    match shelf.load(tape) {
-        Ok(answer) => {
-            assert_eq!(rt; answer, (policy, held));
-            Ok(())
-        },
-        Err(_) => Err(Fail::new("the tape was refused")),
-    }
+pub fn loads(rt: &impl Abort, shelf: &mut Shelf, tape: &[u8], policy: u8, held: usize) {
+    assert_eq!(rt; shelf.load(tape), Ok((policy, held)));
 }
 
 // Wants a tape refused there, with as much held after as before.
-pub fn refuses_tape(
-    rt: &impl Abort,
-    shelf: &mut Shelf,
-    tape: &[u8],
-    number: u8,
-    place: usize,
-) -> Result<(), Fail> {
+pub fn refuses_tape(rt: &impl Abort, shelf: &mut Shelf, tape: &[u8], number: u8, place: usize) {
     let before = shelf.held();
-    match shelf.load(tape) {
-        Ok(_) => Err(Fail::new("the tape was filed")),
-        Err(at) => {
-            assert_eq!(rt; (at.refusal.number(), at.place), (number, place));
-            assert_eq!(rt; shelf.held(), before);
-            Ok(())
-        }
-    }
+    let came = shelf
+        .load(tape)
+        .map_err(|at| (at.refusal.number(), at.place));
+    assert_eq!(rt; came, Err((number, place)));
+    assert_eq!(rt; shelf.held(), before);
 }
 
 // Wants the code of a policy's effect at a request, or a refusal.
-pub fn asked(
-    rt: &impl Abort,
-    shelf: &Shelf,
-    policy: u8,
-    request: u32,
-    wanted: Result<u8, u8>,
-) -> Result<(), Fail> {
-    match shelf.ask(policy, request) {
-        Ok(code) => {
-            assert_eq!(rt; Ok(code), wanted);
-            Ok(())
-        },
-        Err(refusal) => {
-            assert_eq!(rt; Err(refusal.number()), wanted);
-            Ok(())
-        },
-    }
+pub fn asked(rt: &impl Abort, shelf: &Shelf, policy: u8, request: u32, wanted: Result<u8, u8>) {
+    let came = shelf
+        .ask(policy, request)
+        .map_err(|refusal| refusal.number());
+    assert_eq!(rt; came, wanted);
 }
 
 // Wants the answer of a comparison, and the scratch blank after it.
@@ -207,9 +174,9 @@ pub fn compares(
     scratch: &mut [Slot<Pair>],
     wanted: Result<Option<u32>, u8>,
 ) {
-    match shelf.compare(first, second, question, scratch) {
-        Ok(answer) => assert_eq!(rt; Ok(answer), wanted),
-        Err(refusal) => assert_eq!(rt; Err(refusal.number()), wanted),
-    }
+    let came = shelf
+        .compare(first, second, question, scratch)
+        .map_err(|refusal| refusal.number());
+    assert_eq!(rt; came, wanted);
     assert!(rt; are_blank(scratch), "the scratch is not blank");
 }
