@@ -85,7 +85,8 @@ fn permit_faculty(shelf: &mut Shelf) -> Result<u8, Refusal> {
     let draft = write(shelf, draft, &[0x01, 0])?;
     let draft = write(shelf, draft, &[0x11])?;
     let draft = write(shelf, draft, &[0x1F])?;
-    finish(shelf, draft)
+    let policy = finish(shelf, draft)?;
+    Ok(policy)
 }
 
 fn print_policy(rt: &HostRuntime, shelf: &Shelf, policy: u8) -> anyhow::Result<()> {
