@@ -28,6 +28,7 @@ impl<'a> Store<'a> {
     }
 }
 
+// That a code is one of the store's is asked by each function here: no type of a bare number can say it.
 impl Store<'_> {
     // The node that a code names, if it names one.
     fn node(&self, code: u16) -> Option<Node>
@@ -37,7 +38,8 @@ impl Store<'_> {
         self.unique.key(number)
     }
 
-    // The fact that a code tests first, or 32 where it is a constant.
+    // The fact that a code tests first, or 32 where it is a constant, so that the lower of two is the next to test: as an Option,
+    // none would be the lowest.
     fn first_fact(&self, code: u16) -> u8
         requires below { code < 16 + held_by self.now }
         ensures { Top 32 (meant (nodes self.now) code) result }

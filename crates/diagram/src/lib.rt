@@ -20,7 +20,7 @@ pub fn count_laws()
     ensures { Law }
 {}
 
-// What holds of every store that stands. The contract is the theorem, and nothing is computed.
+// What holds of every store. The contract is the theorem, and nothing is computed.
 pub fn store_laws()
     ensures { StoreLaw }
 {}

@@ -28,6 +28,7 @@ fn breaks(question: &[bool; 256], first: u16, second: u16) -> bool
     question[first as usize * 16 + second as usize]
 }
 
+// Here, too, that a code is one of the store's is asked by each function: no type of a bare number can say it.
 impl Store<'_> {
     // The first breaking request among those that lack every fact before `from`, for codes that test none of these;
     // or none where no request breaks. Pairs that were searched without a break are remembered and not searched again.

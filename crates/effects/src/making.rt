@@ -40,11 +40,7 @@ fn code_table<F: Fn(u8, u8) -> u8>(cell: F) -> CodeTable
 fn effect<A: EffectAlgebra>(code: u8) -> Option<A>
     ensures { result ≡ (if nat_lt code A.EffectAlgebra.effects.count then Some (A.EffectAlgebra.effects.effect code) else None) }
 {
-    if code < A::count() {
-        Some(A::effect(code))
-    } else {
-        None
-    }
+    (code < A::count()).then(|| A::effect(code))
 }
 
 // Writes the effects of an algebra down as tables. A cell that no algebra reaches has any code below 16.

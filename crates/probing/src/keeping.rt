@@ -21,7 +21,8 @@ fn round(n: usize, from: usize, steps: usize) -> usize
     }
 }
 
-// The bucket of the key or the first free one on its way, or none once all buckets were looked at.
+// The bucket of the key or the first free one on its way, or none once all buckets were looked at. This function and those below
+// take bare slots, and so ask that they are few: halfway through an insertion a table is not whole.
 fn seek<K: Key>(slots: &[Slot<K>], key: &K) -> Option<usize>
     requires narrow { length slots.now < 65536 }
     requires led { (h : ℕ) → slice_index (serials slots.now) h ≤ length slots.now }

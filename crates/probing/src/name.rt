@@ -35,7 +35,7 @@ fn fold_byte(b: u8) -> u8
     b
 }
 
-// Whether two texts are the same, byte by byte.
+// Whether two texts are the same, byte by byte and not by `==` of slices, so that which letters are one stands in `fold_byte` alone.
 fn same_texts(mine: &[u8], theirs: &[u8]) -> bool
     ensures { result ≡ bytes_eq (map fold_byte mine.now) (map fold_byte theirs.now) }
 {

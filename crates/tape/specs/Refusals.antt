@@ -1,5 +1,5 @@
 -- The number of each refusal, and the layer that checks it.
-use Rattle.std.specs.Prelude.{ℕ}
+use Rattle.std.specs.Prelude.{ℕ, List, ◌++◌, codes, decimal}
 use Rattle.tape.specs.declared.refusal.Refusal.{Refusal}
 use Rattle.tape.specs.declared.refusal.Refusal.TheVariants.{BadName, NamesFull, DraftOpen, AllFiled, NotOpenDraft, NotEnded, UnknownByte, CutOff, UndeclaredFact, NotStatable, NoCombiner, WrongEntry, StackFull, WrongEnd, AfterEnd, NoSlot, TapeTooLong, NoEnd, NoPolicy, NoQuestion, UndeclaredInRequest, TooManyFacts, BadJob}
 use Rattle.tape.specs.declared.refusal.Layer.{Layer}
@@ -61,3 +61,7 @@ layer_of BadJob = Job
 -- a refusal at a byte place
 abbrev pub at_place : Refusal → ℕ → RefusedAt
 at_place e p = record { refusal = e; place = p }
+
+-- what a refusal with its place prints as, in bytes
+abbrev pub refused_text : RefusedAt → List ℕ
+refused_text at = codes "R " ++ (decimal (number_of at.refusal) ++ (codes " " ++ decimal at.place))

@@ -26,14 +26,14 @@ impl<T: Copy> Stack<T> {
     pub fn top(&self, none: T) -> T
         ensures { result ≡ slice_index_or (entries_on self.now) 0 none }
     {
-        self.entry(0).unwrap_or(none)
+        self.entry_or(0, none)
     }
 
-    // The entry under the top one, or `none`.
-    pub(crate) fn under(&self, none: T) -> T
-        ensures { result ≡ slice_index_or (entries_on self.now) 1 none }
+    // The entry so many under the top one, or `none`.
+    pub(crate) fn entry_or(&self, below: usize, none: T) -> T
+        ensures { result ≡ slice_index_or (entries_on self.now) below none }
     {
-        self.entry(1).unwrap_or(none)
+        self.entry(below).unwrap_or(none)
     }
 
     // What lies so many under the top.

@@ -100,7 +100,7 @@ impl Rules<'_> {
         let (command, count) = self.next(stack, bytes)?;
         let none = on.constant(0);
         let top = stack.top(none);
-        let under = stack.under(none);
+        let under = stack.entry_or(1, none);
         let entry = make(on, self.tables, command, top, under)?;
         stack.put(command, entry);
         Ok(count)

@@ -1,8 +1,9 @@
 // The numbers, layers and places of refusals.
-ghost use Rattle.std.specs.Prelude.{◌≡◌};
-ghost use Rattle.tape.specs.Refusals.{number_of, layer_of, at_place};
+ghost use Rattle.std.specs.Prelude.{◌≡◌, Some};
+ghost use Rattle.tape.specs.Refusals.{number_of, layer_of, at_place, refused_text};
 
 use crate::refusal::{Layer, Refusal, RefusedAt};
+use std::fmt;
 
 impl Refusal {
     // The refusal at a byte place.
@@ -47,5 +48,14 @@ impl Refusal {
             | Refusal::TooManyFacts => Layer::Question,
             Refusal::BadJob => Layer::Job,
         }
+    }
+}
+
+// A refusal as the programs print it, by its number and its place.
+impl fmt::Display for RefusedAt {
+    ghost output = { λ at. Some (refused_text at) };
+
+    fn fmt<W: fmt::Write>(&self, f: &mut fmt::Formatter<W>) -> fmt::Result {
+        write!(f, "R {} {}", self.refusal.number(), self.place)
     }
 }

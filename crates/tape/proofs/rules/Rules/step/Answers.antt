@@ -18,7 +18,7 @@ returns-in_err-entry-clause-stands g c =
     let p = err_from_is_err_and c.from_residual-in_err-entry.result c.from_residual-in_err-entry.ensures.1 in
     rw (p.1, p.2) (λ K row C T h.
     let a = held_at M K s st row z c.top-top.result 0 c.constant-none.ensures h c.top-top.ensures in
-    let b = held_at M K s st row z c.under-under.result 1 c.constant-none.ensures h c.under-under.ensures in
+    let b = held_at M K s st row z c.entry_or-under.result 1 c.constant-none.ensures h c.entry_or-under.ensures in
     step_full M K c.args.self.now.tables.now T c.args.self.now.facts s t st row c.args.bytes.now c.in_ok-command.command c.in_ok-command.count _
     (λ e f m. g.E.Entries.lasts.keeps s t e f c.make.ensures.kept m) c.in_ok-command.ensures.said h (c.in_err-entry.ensures.gives _ _ a b))
 
@@ -30,6 +30,6 @@ returns-clause-stands g c = λ K row C T h.
     let st = c.args.stack.now in
     let z = c.constant-none.result in
     let a = held_at M K s st row z c.top-top.result 0 c.constant-none.ensures h c.top-top.ensures in
-    let b = held_at M K s st row z c.under-under.result 1 c.constant-none.ensures h c.under-under.ensures in
+    let b = held_at M K s st row z c.entry_or-under.result 1 c.constant-none.ensures h c.entry_or-under.ensures in
     step_ok M K c.args.self.now.tables.now C T c.args.self.now.facts s t st c.put.new.self row c.args.bytes.now c.in_ok-command.command c.in_ok-command.count c.in_ok-entry.entry
     (λ e f m. g.E.Entries.lasts.keeps s t e f c.make.ensures.kept m) c.in_ok-command.ensures.said h (c.in_ok-entry.ensures.gives _ _ a b) c.put.ensures
