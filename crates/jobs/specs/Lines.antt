@@ -2,7 +2,7 @@
 use Rattle.std.specs.Prelude.{ℕ, List, ◌++◌, Some, None, codes, decimal, Option}
 use Rattle.std.specs.List.{filter_map}
 use Rattle.std.specs.Option.{option_map}
-use Rattle.tape.specs.Refusals.{number_of}
+use Rattle.tape.specs.Refusals.{refused_text}
 use Rattle.tape.specs.declared.refusal.Refusal.TheVariants.{BadJob}
 use Rattle.shelf.specs.declared.exchange.Answer.{Answer}
 use Rattle.shelf.specs.declared.exchange.Answer.TheVariants.{Fact, Unknown, Opened, Took, Filed, Abandoned, Loaded as LoadedAs, Code as CodeOf, Shaped, Kept as KeptAll, Witness as WitnessOf, Holding, Refused as RefusedFor, RefusedThere}
@@ -41,4 +41,4 @@ printed (Loaded policy held) = codes "L " ++ (decimal policy ++ (codes " " ++ de
 printed Kept = codes "C kept"
 printed (Witness request) = codes "C " ++ decimal request
 printed (Code code) = codes "A " ++ decimal code
-printed (Refused refused) = codes "R " ++ (decimal (number_of refused.refusal) ++ (codes " " ++ decimal refused.place))
+printed (Refused refused) = refused_text refused

@@ -5,7 +5,6 @@ ghost use Rattle.jobs.specs.Lines.{line_of, printed};
 use crate::line::Line;
 use shelf::Answer;
 use std::fmt;
-use tape::RefusedAt;
 
 // The line of an answer, if it is one that a job command leads to.
 pub fn line_of(answer: Answer) -> Option<Line>
@@ -33,10 +32,7 @@ impl fmt::Display for Line {
             Line::Kept => write!(f, "C kept"),
             Line::Witness(request) => write!(f, "C {request}"),
             Line::Code(code) => write!(f, "A {code}"),
-            Line::Refused(RefusedAt { refusal, place }) => {
-                let number = refusal.number();
-                write!(f, "R {number} {place}")
-            }
+            Line::Refused(refused) => write!(f, "{refused}"),
         }
     }
 }

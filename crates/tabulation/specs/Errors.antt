@@ -1,6 +1,6 @@
 -- What is printed where there is no table.
-use Rattle.std.specs.Prelude.{ℕ, List, ◌++◌, codes, decimal}
-use Rattle.tape.specs.Refusals.{number_of}
+use Rattle.std.specs.Prelude.{ℕ, List, codes}
+use Rattle.tape.specs.Refusals.{refused_text}
 use Rattle.tabulation.specs.Inputs.{complaint}
 use Rattle.tabulation.specs.declared.error.TabulateError.{TabulateError}
 use Rattle.tabulation.specs.declared.error.TabulateError.TheVariants.{Unreadable, Refused, OutOfMemory}
@@ -8,5 +8,5 @@ use Rattle.tabulation.specs.declared.error.TabulateError.TheVariants.{Unreadable
 -- the complaint of a bad input; a refusal by its number and its place
 abbrev pub error_text : TabulateError → List ℕ
 error_text (Unreadable b) = complaint b
-error_text (Refused e) = codes "R " ++ decimal (number_of e.refusal) ++ codes " " ++ decimal e.place
+error_text (Refused e) = refused_text e
 error_text OutOfMemory = codes "memory allocation failed"

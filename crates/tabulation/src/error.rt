@@ -58,7 +58,7 @@ impl fmt::Display for TabulateError {
     fn fmt<W: fmt::Write>(&self, f: &mut fmt::Formatter<W>) -> fmt::Result {
         match self {
             TabulateError::Unreadable(bad) => write!(f, "{bad}"),
-            TabulateError::Refused(at) => write!(f, "R {} {}", at.refusal.number(), at.place),
+            TabulateError::Refused(at) => write!(f, "{at}"),
             TabulateError::OutOfMemory => write!(f, "memory allocation failed"),
         }
     }
