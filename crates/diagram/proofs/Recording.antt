@@ -133,17 +133,17 @@ pub full_count : (s : Store) (n : ℕ) (Fs : List (ℕ → ℕ)) (F : ℕ → �
 full_count s n Fs F R h w = ap (ltb (slots s)) (needed_count s F Fs R ∙ count_more n 32 h (Fs ++ F ∷ []) w)
 
 -- what is recorded goes by the functions alone
-pub recorded_same : (s : Store) (k : ℕ) (Fs Gs : List (ℕ → ℕ)) → Within 32 Fs Gs → Within 32 Gs Fs → Recorded s k Fs → Recorded s k Gs
-recorded_same s k Fs Gs v w R = record {
-  within = R.within;
-  lists = record {
-    each = each_weaker (λ G. Exists (λ F. CofactorOf 32 F G) Fs) (λ G. Exists (λ F. CofactorOf 32 F G) Gs) (λ G e. moved Fs Gs v G e) (functions (take k (nodes s))) R.lists.each;
-    every = λ G e. R.lists.every G (moved Gs Fs w G e);
-  };
+pub listed_same : (xs : List Node) (Fs Gs : List (ℕ → ℕ)) → Within 32 Fs Gs → Within 32 Gs Fs → Lists 32 Fs (functions xs) → Lists 32 Gs (functions xs)
+listed_same xs Fs Gs v w L = record {
+  each = each_weaker (λ G. Exists (λ F. CofactorOf 32 F G) Fs) (λ G. Exists (λ F. CofactorOf 32 F G) Gs) (λ G e. moved Fs Gs v G e) (functions xs) L.each;
+  every = λ G e. L.every G (moved Gs Fs w G e);
 }
   where
     moved : (Es Hs : List (ℕ → ℕ)) → Within 32 Es Hs → (G : ℕ → ℕ) → Exists (λ F. CofactorOf 32 F G) Es → Exists (λ F. CofactorOf 32 F G) Hs
     moved Es Hs u G e = some_some (λ F. CofactorOf 32 F G) (λ F. CofactorOf 32 F G) (Same 32) (λ E F q p. cofactor_same 32 E F G q p) Es Hs u e
+
+pub recorded_same : (s : Store) (k : ℕ) (Fs Gs : List (ℕ → ℕ)) → Within 32 Fs Gs → Within 32 Gs Fs → Recorded s k Fs → Recorded s k Gs
+recorded_same s k Fs Gs v w R = record { within = R.within; lists = listed_same (take k (nodes s)) Fs Gs v w R.lists }
 
 -- what the answer is, as an outcome
 pub outcome_later : (s t : Store) (F : ℕ → ℕ) (r : Result ℕ Full) → Outcome s F t r → Later s t

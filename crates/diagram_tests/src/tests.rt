@@ -58,7 +58,16 @@ fn shares_a_node(rt: HostRuntime) -> Result<(), Fail> {
     let mut slots = [JUNK; 4];
     let tables = effect_tables::<FourEffect>();
     let mut store = Store::new(&mut slots);
-    let policy = load(&mut store, &tables, 2, &[0x10, 1, 0x01, 1, 0x11, 0x1F])?;
+    let rules = Rules {
+        tables: &tables,
+        facts: 2,
+    };
+    // command by command, and with no END
+    let mut stack = Stack::empty(0u16);
+    for command in [&[0x10u8, 1][..], &[0x01, 1], &[0x11]] {
+        assert_eq!(rt; rules.step(&mut store, &mut stack, command)?, command.len());
+    }
+    let policy = stack.top(0);
     assert_eq!(rt; store.held(), 1);
     assert_eq!(rt; store.evaluate(policy, 2), 1);
     assert_eq!(rt; store.evaluate(policy, 1), 0);

@@ -43,7 +43,8 @@ fn effect<A: EffectAlgebra>(code: u8) -> Option<A>
     (code < A::count()).then(|| A::effect(code))
 }
 
-// Writes the effects of an algebra down as tables. A cell that no algebra reaches has any code below 16.
+// Writes the effects of an algebra down as tables. A cell that no algebra reaches has 0, and so has every cell of a combiner that
+// this one lacks.
 pub fn effect_tables<A: EffectAlgebra>() -> EffectTables
     ensures { Tables (codes A.EffectAlgebra.effects) result }
 {
@@ -55,9 +56,9 @@ pub fn effect_tables<A: EffectAlgebra>() -> EffectTables
             |effect| effect.statable(),
         )),
         // the value is both row and column
-        negation: code_table(|value, _| u8::from(value == 0)),
+        negation: code_table(|row, column| u8::from(row == 0 && column == 0)),
         both: code_table(|first, second| u8::from(first == 1 && second == 1)),
-        either: code_table(|first, second| u8::from(first == 1 || second == 1)),
+        either: code_table(|first, second| u8::from(first < 2 && second < 2 && first + second > 0)),
         scope: code_table(|policy, condition| if condition == 1 {
             policy
         } else {
@@ -65,12 +66,16 @@ pub fn effect_tables<A: EffectAlgebra>() -> EffectTables
         }),
         fail: code_table(|policy, condition| match effect::<A>(policy) {
             Some(effect) if condition == 1 => effect.failed().code(),
-            _ => policy,
+            Some(_) => policy,
+            None => 0,
         }),
         combine: [0, 1, 2, 3].map(
             |combiner| -> CodeTable
                 ensures { Combines (codes A.EffectAlgebra.effects) combiner result.cells }
             {
+                if combiner >= A::combiner_count() {
+                    return CodeTable { cells: [0; 256] };
+                }
                 code_table(|first, second| match (effect::<A>(first), effect::<A>(second)) {
                     (Some(first), Some(second)) => A::combine(combiner, first, second).code(),
                     _ => 0,
@@ -80,7 +85,7 @@ pub fn effect_tables<A: EffectAlgebra>() -> EffectTables
     }
 }
 
-// Writes the questions of an algebra down as tables.
+// Writes the questions of an algebra down as tables. One that it lacks, nothing breaks.
 pub fn question_tables<A: EffectAlgebra>() -> QuestionTables
     ensures { Asked A.EffectAlgebra.effects.count (question_codes A.EffectAlgebra.effects A.EffectAlgebra.questions) result }
 {
@@ -90,6 +95,9 @@ pub fn question_tables<A: EffectAlgebra>() -> QuestionTables
             |question| -> [bool; 256]
                 ensures { Answers A.EffectAlgebra.effects.count (question_codes A.EffectAlgebra.effects A.EffectAlgebra.questions) question result }
             {
+                if question >= A::question_count() {
+                    return [false; 256];
+                }
                 table(|first, second| match (effect::<A>(first), effect::<A>(second)) {
                     (Some(first), Some(second)) => A::breaks(question, first, second),
                     _ => false,

@@ -2,7 +2,7 @@
 use Rattle.std.specs.Prelude.{ℕ, List, ◌++◌, Some, None, codes, decimal, Option}
 use Rattle.std.specs.List.{filter_map}
 use Rattle.std.specs.Option.{option_map}
-use Rattle.tape.specs.Refusals.{refused_text}
+use Rattle.tape.specs.Refusals.{number_of}
 use Rattle.tape.specs.declared.refusal.Refusal.TheVariants.{BadJob}
 use Rattle.shelf.specs.declared.exchange.Answer.{Answer}
 use Rattle.shelf.specs.declared.exchange.Answer.TheVariants.{Fact, Unknown, Opened, Took, Filed, Abandoned, Loaded as LoadedAs, Code as CodeOf, Shaped, Kept as KeptAll, Witness as WitnessOf, Holding, Refused as RefusedFor, RefusedThere}
@@ -16,8 +16,8 @@ line_of (LoadedAs policy held) = Some (Loaded policy held)
 line_of KeptAll = Some Kept
 line_of (WitnessOf request) = Some (Witness request)
 line_of (CodeOf code) = Some (Code code)
-line_of (RefusedFor refusal) = Some (Refused (record { refusal = refusal; place = 0 }))
-line_of (RefusedThere refused) = Some (Refused refused)
+line_of (RefusedFor refusal) = Some (Refused (number_of refusal) 0)
+line_of (RefusedThere refused) = Some (Refused (number_of refused.refusal) refused.place)
 line_of Unknown = None
 line_of (Opened draft) = None
 line_of (Took bytes) = None
@@ -32,7 +32,7 @@ lines_of answers = filter_map line_of answers
 
 -- the line of a job that is refused at a place
 abbrev pub bad_line : Option ℕ → Option Line
-bad_line bad = option_map (λ place. Refused (record { refusal = BadJob; place = place })) bad
+bad_line bad = option_map (λ place. Refused (number_of BadJob) place) bad
 
 -- what a line prints as, in bytes
 abbrev pub printed : Line → List ℕ
@@ -41,4 +41,4 @@ printed (Loaded policy held) = codes "L " ++ (decimal policy ++ (codes " " ++ de
 printed Kept = codes "C kept"
 printed (Witness request) = codes "C " ++ decimal request
 printed (Code code) = codes "A " ++ decimal code
-printed (Refused refused) = refused_text refused
+printed (Refused number place) = codes "R " ++ (decimal number ++ (codes " " ++ decimal place))

@@ -42,7 +42,7 @@ pub fn collate(heap: Global, job: &[u8]) -> Result<Vec<Line>, AllocError>
     let answers = answers_to(heap, &job.calls)?;
     let refused = job
         .bad
-        .map(|place| Line::Refused(Refusal::BadJob.at(place)));
+        .map(|place| Line::Refused(Refusal::BadJob.number(), place));
     answers
         .iter()
         .filter_map(|answer| line_of(*answer))

@@ -1,5 +1,4 @@
 // A line of output.
-use tape::RefusedAt;
 
 // What a job command came to.
 #[derive(Clone, Copy, PartialEq, Eq, Debug)]
@@ -14,5 +13,6 @@ pub enum Line {
     Witness(u32),
     // an effect's code
     Code(u8),
-    Refused(RefusedAt),
+    // a refusal's number, and its place; a number, since a line is what is printed, of whatever refused
+    Refused(u8, usize),
 }

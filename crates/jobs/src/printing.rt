@@ -16,8 +16,10 @@ pub fn line_of(answer: Answer) -> Option<Line>
         Answer::Kept => Some(Line::Kept),
         Answer::Witness(request) => Some(Line::Witness(request)),
         Answer::Code(code) => Some(Line::Code(code)),
-        Answer::Refused(refusal) => Some(Line::Refused(refusal.at(0))),
-        Answer::RefusedThere(refused) => Some(Line::Refused(refused)),
+        Answer::Refused(refusal) => Some(Line::Refused(refusal.number(), 0)),
+        Answer::RefusedThere(refused) => {
+            Some(Line::Refused(refused.refusal.number(), refused.place))
+        }
         _ => None,
     }
 }
@@ -32,7 +34,7 @@ impl fmt::Display for Line {
             Line::Kept => write!(f, "C kept"),
             Line::Witness(request) => write!(f, "C {request}"),
             Line::Code(code) => write!(f, "A {code}"),
-            Line::Refused(refused) => write!(f, "{refused}"),
+            Line::Refused(number, place) => write!(f, "R {number} {place}"),
         }
     }
 }

@@ -4,7 +4,6 @@ use jobs::{Line, parse};
 use shelf::Call;
 use std::alloc::{AllocError, Global};
 use std::test::Fail;
-use tape::Refusal;
 
 const SIX_LINES: &[u8] =
     b"declare student\ndeclare faculty\nload 10 01 01 01 11 1f\nload 10 01 01 01 11 10 02 01 00 11 13 00 1F\ncompare 0 1 1\nask 1 3\n";
@@ -59,7 +58,7 @@ fn long_jobs(rt: HostRuntime) -> Result<(), Fail> {
 
 #[test]
 fn printed_lines(rt: HostRuntime) -> Result<(), Fail> {
-    let line = Line::Refused(Refusal::NoSlot.at(7));
+    let line = Line::Refused(39, 7);
     assert!(rt; format!(in rt.alloc(); "{line}")?.as_str() == "R 39 7");
     let line = Line::Kept;
     assert!(rt; format!(in rt.alloc(); "{line}")?.as_str() == "C kept");

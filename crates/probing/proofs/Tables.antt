@@ -4,13 +4,17 @@ use mathlib.Core.Logic.{∥∥₁_elim}
 use mathlib.Core.HLevel.{Π_prop}
 use denote.Struct.Props.{props}
 use Rattle.std.proofs.lemmas.List.{length-set, length-map, length-take-le, get_or-set_same, get_or-set_other, take_more_set}
-use Rattle.std.specs.Cmp.{IsPartialEquivalence}
+use Rattle.std.specs.Cmp.{IsPartialEquivalence, both_ways as each_way}
 use Rattle.std.proofs.lemmas.Bool.{cases_order, both_ways, eq-eqb, eqb-true, lt-ltb, le-ltb}
 use Rattle.std.proofs.lemmas.Bool.Decides.{nat_tests}
 use Rattle.probing.specs.Table.{Holds, spot, number_from, number_of, gap, home, Sound, Distinct, Stopped, Nowhere, cut, free, numbered, grown, answered, extended}
 use Rattle.probing.proofs.Ring.{gap_same}
 use Rattle.probing.proofs.Places.{holds_set, holds_take, holds_taken, holds_push, at_place}
 use Rattle.probing.proofs.Pigeons.{pigeons}
+
+-- the laws of a kind of key, as the library has them
+pub partial : {K : Type 0} (same : K → K → Bool) → ((x y : K) → same x y ≡ true → same y x ≡ true) → ((x y z : K) → same x y ≡ true → same y z ≡ true → same x z ≡ true) → IsPartialEquivalence same
+partial same turned along = record { symm = λ x y. each_way (same x y) (same y x) (turned x y) (turned y x); trans = along }
 
 pub false_from : (b : Bool) → (b ≡ true → ⊥) → b ≡ false
 false_from true h = absurd (h refl)

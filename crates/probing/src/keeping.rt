@@ -26,7 +26,7 @@ fn round(n: usize, from: usize, steps: usize) -> usize
 fn seek<K: Key>(slots: &[Slot<K>], key: &K) -> Option<usize>
     requires narrow { length slots.now < 65536 }
     requires led { (h : ℕ) → slice_index (serials slots.now) h ≤ length slots.now }
-    ensures sought { Sought K.eq K.hashed (serials slots.now) (stored slots.now) key.now result }
+    ensures sought { Sought K.same K.hashed (serials slots.now) (stored slots.now) key.now result }
     ensures near { Near (length slots.now) result }
 {
     let n = slots.len();
@@ -39,7 +39,7 @@ fn seek<K: Key>(slots: &[Slot<K>], key: &K) -> Option<usize>
     loop {
         let i = round(n, home, probed);
         let serial = slots[i].serial as usize;
-        if serial == 0 || slots[serial - 1].key == *key {
+        if serial == 0 || slots[serial - 1].key.same_as(key) {
             break Some(i);
         }
         probed += 1;
@@ -99,7 +99,7 @@ impl<'a, K: Key> Table<'a, K> {
     // `seek` in the table's slots. It is a method of its own since the borrow checker does not let `insert`, which has a
     // `&mut self`, lend the slots as a `&`.
     fn place(&self, key: &K) -> Option<usize>
-        ensures sought { Sought K.eq K.hashed (serials self.now.slots.now) (stored self.now.slots.now) key.now result }
+        ensures sought { Sought K.same K.hashed (serials self.now.slots.now) (stored self.now.slots.now) key.now result }
         ensures near { Near (room self.now) result }
     {
         seek(self.slots, key)
@@ -109,14 +109,14 @@ impl<'a, K: Key> Table<'a, K> {
     pub fn count(&self) -> usize
         ensures number { result ≡ length (keys self.now) }
         ensures within { result ≤ room self.now }
-        ensures apart { Distinct K.eq (keys self.now) }
+        ensures apart { Distinct K.same (keys self.now) }
     {
         self.count // the keys fill the slots from the first on
     }
 
     // The number of the key, if it is there.
     pub fn find(&self, key: &K) -> Option<usize>
-        ensures { result ≡ number_of K.eq key.now (keys self.now) }
+        ensures { result ≡ number_of K.same key.now (keys self.now) }
     {
         let bucket = self.place(key)?;
         let slots = &*self.slots;
@@ -139,8 +139,8 @@ impl<'a, K: Key> Table<'a, K> {
     // The number of the key. A new key gets the next number where a slot is free; else it is refused, and nothing changes.
     // No key of a lower number is touched.
     pub fn insert(&mut self, key: K) -> Option<usize>
-        ensures answer { result ≡ numbered K.eq key (room self.old) (keys self.old) }
-        ensures listed { keys self.new ≡ grown K.eq key (room self.old) (keys self.old) }
+        ensures answer { result ≡ numbered K.same key (room self.old) (keys self.old) }
+        ensures listed { keys self.new ≡ grown K.same key (room self.old) (keys self.old) }
         ensures older { take (length (keys self.old)) (keys self.new) ≡ keys self.old }
         ensures beyond { drop (length (keys self.new)) (kept self.new) ≡ drop (length (keys self.new)) (kept self.old) }
         ensures quiet { self.new.count ≡ self.old.count → self.new.slots.now ≡ self.old.slots.now }

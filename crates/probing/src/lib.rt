@@ -4,7 +4,7 @@
 // the kinds of keys.
 #![tactic(auto)]
 
-ghost use Rattle.std.specs.Prelude.{◌≡◌, ℕ, true};
+ghost use Rattle.std.specs.Prelude.{◌≡◌, ℕ, Bool, true};
 
 pub mod guard;
 mod keeping;
@@ -14,16 +14,28 @@ pub mod node;
 pub mod pair;
 pub mod table;
 
-// A kind of key: its `==` may be coarser than that of all the fields, and its hash is the same for equal keys. Nothing else
-// is asked of the hash: a constant one is slow and correct.
-pub trait Key: Copy + Eq {
-    // What `hash` answers.
+// A kind of key: an equality, which may be coarser than that of all the fields, and a hash that is the same for equal keys.
+// Nothing else is asked of the hash: a constant one is slow and correct. The equality is a method, and no `Eq`, since a kind may
+// have another `==` beside it.
+pub trait Key: Copy {
+    // What `same_as` and `hash` answer.
+    ghost same: { Self → Self → Bool };
+
     ghost hashed: { Self → ℕ };
+
+    fn same_as(&self, other: &Self) -> bool
+        ensures { result ≡ same self.now other.now };
 
     fn hash(&self) -> u32
         ensures { result ≡ hashed self.now };
 
-    ghost even: { (x y : Self) → Self.eq x y ≡ true → hashed x ≡ hashed y };
+    ghost reflexive: { (x : Self) → same x x ≡ true };
+
+    ghost symmetric: { (x y : Self) → same x y ≡ true → same y x ≡ true };
+
+    ghost transitive: { (x y z : Self) → same x y ≡ true → same y z ≡ true → same x z ≡ true };
+
+    ghost even: { (x y : Self) → same x y ≡ true → hashed x ≡ hashed y };
 }
 
 // A slot has two fields that stand side by side and do not belong together: the key of slot n is that of number n,

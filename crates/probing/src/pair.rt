@@ -1,7 +1,7 @@
 // Pairs of codes as keys.
 
 ghost use Rattle.std.specs.Prelude.{◌+◌, ◌*◌};
-ghost use Rattle.probing.specs.Kinds.{pair_hashed};
+ghost use Rattle.probing.specs.Kinds.{pair_same, pair_hashed};
 ghost use Rattle.std.proofs.Common.{rules};
 
 use crate::Key;
@@ -15,9 +15,21 @@ pub struct Pair {
 }
 
 impl Key for Pair {
+    ghost same = { pair_same };
+
     ghost hashed = { pair_hashed };
 
+    ghost reflexive = { Prim.search rules };
+
+    ghost symmetric = { Prim.search rules };
+
+    ghost transitive = { Prim.search rules };
+
     ghost even = { Prim.search rules };
+
+    fn same_as(&self, other: &Pair) -> bool {
+        self == other
+    }
 
     fn hash(&self) -> u32 {
         mix(self.first as u64 + 65536 * self.second as u64)

@@ -12,5 +12,5 @@ use crate::{Key, Slot};
 pub struct Table<'a, K: Key> {
     pub(crate) slots: &'a mut [Slot<K>],
     pub(crate) count: usize,
-    ghost whole: { Whole K.eq K.hashed slots.now count },
+    ghost whole: { Whole K.same K.hashed slots.now count },
 }

@@ -33,12 +33,53 @@ struct Level {
 }
 
 impl Key for Level {
+    ghost same = { λ x y. (x.code == y.code) };
+
     ghost hashed = { λ _. 7 };
+
+    ghost reflexive = { Prim.search rules };
+
+    ghost symmetric = { Prim.search rules };
+
+    ghost transitive = { Prim.search rules };
 
     ghost even = { Prim.search rules };
 
+    fn same_as(&self, other: &Level) -> bool {
+        self == other
+    }
+
     fn hash(&self) -> u32 {
         7
+    }
+}
+
+// A kind of key for which two keys may be the same that are not `==`: the rank alone says.
+#[derive(Clone, Copy, PartialEq, Eq, Debug)]
+struct Ranked {
+    rank: u8,
+    label: u8,
+}
+
+impl Key for Ranked {
+    ghost same = { λ x y. (x.rank == y.rank) };
+
+    ghost hashed = { λ x. x.rank };
+
+    ghost reflexive = { Prim.search rules };
+
+    ghost symmetric = { Prim.search rules };
+
+    ghost transitive = { Prim.search rules };
+
+    ghost even = { Prim.search rules };
+
+    fn same_as(&self, other: &Ranked) -> bool {
+        self.rank == other.rank
+    }
+
+    fn hash(&self) -> u32 {
+        self.rank as u32
     }
 }
 
@@ -97,6 +138,23 @@ fn one_hash(rt: HostRuntime) {
     assert_eq!(rt; table.find(&Level { code: 4 }), Some(2));
     table.roll_back(1);
     assert_eq!(rt; table.find(&Level { code: 4 }), None);
+}
+
+// The first of two keys that are the same stays, though they are not equal.
+#[test]
+fn same_but_not_equal(rt: HostRuntime) {
+    let first = Ranked { rank: 3, label: 1 };
+    let second = Ranked { rank: 3, label: 2 };
+    let mut slots = [Slot {
+        key: second,
+        serial: 1,
+    }; 2];
+    let mut table = Table::new(&mut slots, second);
+    assert_eq!(rt; table.insert(first), Some(0));
+    assert_eq!(rt; table.insert(second), Some(0));
+    assert_eq!(rt; table.find(&second), Some(0));
+    assert_eq!(rt; table.key(0), Some(first));
+    assert_eq!(rt; table.count(), 1);
 }
 
 // The bytes beyond a name's length take part in nothing, nor does what a length says beyond sixteen.
@@ -189,7 +247,7 @@ fn probes<K: Key>(slots: &[Slot<K>], key: &K) -> usize {
             probed - (n - home)
         };
         let serial = slots[i].serial as usize;
-        if serial == 0 || serial > n || slots[serial - 1].key == *key {
+        if serial == 0 || serial > n || slots[serial - 1].key.same_as(key) {
             return probed + 1;
         }
     }

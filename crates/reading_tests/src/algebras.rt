@@ -38,6 +38,19 @@ fn four_combiners(rt: HostRuntime) {
     );
 }
 
+// What no algebra reaches is 0: cells beyond the codes, and the table of a combiner that it lacks.
+#[test]
+fn unreached_cells(rt: HostRuntime) {
+    let tables = effect_tables::<SixEffect>();
+    let [deny_overrides, _, _, lacking] = tables.combine;
+    assert_eq!(rt; lacking.cells, [0; 256]);
+    assert_eq!(rt; cell(&deny_overrides.cells, 6, 1), 0);
+    assert_eq!(rt; cell(&tables.fail.cells, 6, 1), 0);
+    assert_eq!(rt; cell(&tables.fail.cells, 9, 0), 0);
+    assert_eq!(rt; cell(&tables.negation.cells, 0, 1), 0);
+    assert_eq!(rt; cell(&tables.either.cells, 1, 2), 0);
+}
+
 #[test]
 fn six_combiners(rt: HostRuntime) {
     let tables = effect_tables::<SixEffect>();

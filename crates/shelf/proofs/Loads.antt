@@ -37,7 +37,7 @@ pub record Loaded (K : Codes) (n many : ℕ) (Fs : List (ℕ → ℕ)) (store : 
   pub ends : ended row ≡ true
 
 -- a tape read from a store that records Fs and from an empty stack
-module _ (K : Codes) (n : ℕ) (few : n ≤ 32) (Fs : List (ℕ → ℕ)) (tape : List ℕ) (s : Store) (st : Stack ℕ) (w : Storing s (slots s) n Fs) (bare : st.entries.items ≡ []) (unended : st.ended ≡ false) where
+module _ (K : Codes) (n : ℕ) (few : n ≤ 32) (Fs : List (ℕ → ℕ)) (tape : List ℕ) (s : Store) (st : Stack ℕ) (w : Storing s (slots s) n Fs) (bare : st.outline.depth ≡ 0) (unended : st.outline.ended ≡ false) where
   -- the last test of each command
   abbrev pub tests : Row → Command → Tests
   tests row x = slot_tests K (slots s) n (Fs ++ results K row) row x

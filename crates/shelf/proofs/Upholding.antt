@@ -203,7 +203,7 @@ module _ {K : Codes} {Q : QuestionCodes} {names : NameTable} {store : Store} {ta
   }
 
   -- a draft opened
-  pub opened : (stack' : Stack ℕ) → stack'.entries.items ≡ [] → stack'.ended ≡ false → is_some state.before ≡ false → length state.roots.items < 64 → Upholds K Q names store tables questions stack' (opened_state state (held_by store)) (opening c)
+  pub opened : (stack' : Stack ℕ) → stack'.outline.depth ≡ 0 → stack'.outline.ended ≡ false → is_some state.before ≡ false → length state.roots.items < 64 → Upholds K Q names store tables questions stack' (opened_state state (held_by store)) (opening c)
   opened stack' bare unended none room =
       let only : all_results K c ≡ filed_results K c = filed_only K c (closed_row c (u.drafting_is ∙ none)) in
       let st : Storing store c.making.slots (facts c) (filed_results K c) = subst (Storing store c.making.slots (facts c)) only u.storing in
@@ -232,7 +232,7 @@ module _ {K : Codes} {Q : QuestionCodes} {names : NameTable} {store : Store} {ta
       wrapped n = omega arith
 
   -- the draft's row filed
-  pub filed : (root before : ℕ) → state.before ≡ Some before → stack.ended ≡ true → root ≡ get_or (entries_on stack) 0 0 → Upholds K Q names store tables questions stack (filed_state state root) (filing c (open_row c))
+  pub filed : (root before : ℕ) → state.before ≡ Some before → stack.outline.ended ≡ true → root ≡ get_or (entries_on stack) 0 0 → Upholds K Q names store tables questions stack (filed_state state root) (filing c (open_row c))
   filed root before e over top =
       let d = u.drafting before e in
       record {

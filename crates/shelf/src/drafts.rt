@@ -93,7 +93,7 @@ impl Shelf<'_> {
         if self.held_before(&draft).is_none() {
             return Err((Refusal::NotOpenDraft, draft));
         }
-        if !self.stack.ended {
+        if !self.stack.outline.ended {
             return Err((Refusal::NotEnded, draft));
         }
         let Draft { id: _ } = draft;

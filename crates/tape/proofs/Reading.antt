@@ -1,16 +1,15 @@
 -- Reading a whole tape, command by command.
-use Rattle.std.proofs.Common.{◌≡◌, ℕ, zero, suc, ◌+◌, ◌-◌, ◌^◌, ◌<◌, ◌≤◌, Bool, true, false, cond, not, ◌&&◌, ltb, leb, List, [], ◌∷◌, ◌++◌, length, drop, map, reverse, Ok, Err, Result, sym, refl, ap, ◌∙◌, subst, arith, length-drop, drop-drop}
+use Rattle.std.proofs.Common.{◌≡◌, ℕ, zero, suc, ◌+◌, ◌-◌, ◌^◌, ◌<◌, ◌≤◌, Bool, true, false, cond, not, ◌&&◌, ltb, leb, List, [], ◌∷◌, ◌++◌, length, drop, Ok, Err, Result, sym, refl, ap, ◌∙◌, subst, arith, length-drop, drop-drop}
 use mathlib.Core.Path.{fun_ext}
 use Rattle.std.proofs.lemmas.Bool.{cond-false}
 use Rattle.effects.specs.Codes.{Codes}
 use Rattle.tape.specs.Refusals.{at_place}
 use Rattle.tape.specs.Tape.{Row, values, kinds, is_end, ended, result, Tests, first_of, bind, checked, next_command, after, bytes_taken, tape_from, told, no_tests, read_answer}
-use Rattle.tape.specs.Entries.{Model, Meant, Holds, own_tests, own_command, Moves, Moved, Stepped, Reads}
+use Rattle.tape.specs.Entries.{Model, top_first, Meant, Holds, own_tests, own_command, Moves, Moved, Stepped, Reads}
 use Rattle.tape.specs.declared.command.Command.{Command}
 use Rattle.tape.specs.declared.refusal.Refusal.{Refusal}
 use Rattle.tape.specs.declared.refusal.RefusedAt.{RefusedAt}
 use Rattle.tape.specs.declared.refusal.Refusal.TheVariants.{NoSlot, NoEnd}
-use Rattle.tape.specs.declared.stack.Placed.{Placed}
 use Rattle.tape.specs.declared.stack.Stack.{Stack}
 
 -- a command of a whole tape that is accepted, refused, or not there
@@ -79,7 +78,7 @@ module _ {S E : Type 0} (M : Model S E) (K : Codes) (n : ℕ) (first : Row) (tap
       let p = came_err (own_command M K n s rd.row bs) e sd.answer in
       rd.rest t su _ (reads_err M rd.fuel K n rd.row place bs s t su e some rd.enough p (subst (Moved M K rd.row s t) p sd.moved) (subst (λ v. Holds M K t su (after rd.row v)) p sd.holds))
 
-  pub reached_end : (s : S) (st : Stack E) (place : ℕ) (r : Result (Unit {0}) RefusedAt) → Reached M K n first tape start s st place → length tape ≤ place → r ≡ cond st.ended (Ok tt) (Err (at_place NoEnd place)) → Reads M K n (length tape) first 0 tape start s st r
+  pub reached_end : (s : S) (st : Stack E) (place : ℕ) (r : Result (Unit {0}) RefusedAt) → Reached M K n first tape start s st place → length tape ≤ place → r ≡ cond st.outline.ended (Ok tt) (Err (at_place NoEnd place)) → Reads M K n (length tape) first 0 tape start s st r
   reached_end s st place r rd le e =
       let l = length-drop place tape in
       let none : length (drop place tape) ≤ 0 = omega arith in
@@ -133,12 +132,12 @@ module _ {S E : Type 0} (M : Model S E) (Also : Row → S → Type 0) (more : Ro
       by rest (Err e) p x = subst (Reading M Also K t st (Err (at_place e place))) (sym x.2) refl
       by rest (Ok d) p x = rest d x.0 (goes row (b ∷ bs) s x.0 x.1 d also p x.2 x.3) x.4
 
-pub holds_empty : {S E : Type 0} (M : Model S E) (K : Codes) (s : S) (st : Stack E) → st.entries.items ≡ [] → st.ended ≡ false → Holds M K s st []
+pub holds_empty : {S E : Type 0} (M : Model S E) (K : Codes) (s : S) (st : Stack E) → st.outline.depth ≡ 0 → st.outline.ended ≡ false → Holds M K s st []
 unfolding kinds values ended
 holds_empty {E = E} M K s st d e = record {
-  standing = ap (λ (es : List (Placed E)). map (λ p. p.kind) (reverse es)) d;
+  standing = ap (top_first st.outline.kinds) d;
   over = e;
-  meant = subst (λ (es : List (Placed E)). Meant M s (map (λ p. p.entry) (reverse es)) (values K [])) (sym d) (λ q. refl);
+  meant = subst (λ (es : List E). Meant M s es (values K [])) (sym (ap (top_first st.entries) d)) (λ q. refl);
   sound = λ q. tt;
 }
 

@@ -231,7 +231,7 @@ next_err K n more row bs e p = ap (λ (v : Result (Command × ℕ) Refusal). bin
 
 -- the check at the stack is the check at the row
 abbrev At : {E : Type 0} → EffectTables → ℕ → Stack E → List ℕ → Result (Command × ℕ) Refusal
-At R n st bs = checked (of_tables R) n st.ended (kinds_on st) bs
+At R n st bs = checked (of_tables R) n st.outline.ended (kinds_on st) bs
 
 at_row : {S E : Type 0} (M : Model S E) (K : Codes) (R : EffectTables) → Tables K R → (n : ℕ) (s : S) (st : Stack E) (row : Row) (bs : List ℕ) → Holds M K s st row → At R n st bs ≡ checked K n (ended row) (kinds row) bs
 at_row M K R T n s st row bs h =

@@ -1,5 +1,5 @@
 -- What an entry is for the reader that runs the rules.
-use Rattle.std.specs.Prelude.{◌≡◌, ℕ, zero, suc, ◌+◌, ◌<◌, ◌≤◌, Bool, true, false, cond, not, ◌&&◌, ◌||◌, List, [], ◌∷◌, ◌++◌, length, drop, map, reverse, Ok, Err, Result, slice_index, slice_index_or}
+use Rattle.std.specs.Prelude.{◌≡◌, ℕ, zero, suc, ◌+◌, ◌<◌, ◌≤◌, Bool, true, false, cond, not, ◌&&◌, ◌||◌, List, [], ◌∷◌, ◌++◌, length, take, drop, reverse, Ok, Err, Result, slice_index, slice_index_or}
 use Rattle.effects.specs.Cells.{cell}
 use Rattle.effects.specs.Codes.{Codes}
 use Rattle.effects.specs.Tables.{bit, combiner_cells}
@@ -14,7 +14,6 @@ use Rattle.tape.specs.declared.command.Kind.TheVariants.{Condition, Policy}
 use Rattle.tape.specs.declared.refusal.Refusal.{Refusal}
 use Rattle.tape.specs.declared.refusal.Refusal.TheVariants.{NoSlot, NoEnd}
 use Rattle.tape.specs.declared.refusal.RefusedAt.{RefusedAt}
-use Rattle.tape.specs.declared.stack.Placed.{Placed}
 use Rattle.tape.specs.declared.stack.Stack.{Stack}
 
 -- what entries E mean in the states S of a reader
@@ -81,17 +80,17 @@ abbrev pub Makes : {S E : Type 0} → Model S E → EffectTables → S → E →
 Makes M tables s top under t r x =
     (f g : ℕ → ℕ) → M.sense s top f → M.sense s under g → Gives M (is_end x) s t (λ q. tabled tables q x (f q) (g q)) r
 
--- what is on a stack, the top first
-abbrev pub placed : {E : Type 0} → Stack E → List (Placed E)
-placed st = reverse st.entries.items
+-- the first d of an array, the last of them first
+abbrev pub top_first : {A : Type 0} → List A → ℕ → List A
+top_first xs d = reverse (take d xs)
 
--- the kinds of the entries, the top first
+-- the kinds of what is on a stack, the top first
 abbrev pub kinds_on : {E : Type 0} → Stack E → List Kind
-kinds_on st = map (λ p. p.kind) (placed st)
+kinds_on st = top_first st.outline.kinds st.outline.depth
 
 -- the entries, the top first
 abbrev pub entries_on : {E : Type 0} → Stack E → List E
-entries_on st = map (λ p. p.entry) (placed st)
+entries_on st = top_first st.entries st.outline.depth
 
 -- entries that mean these values at each request, the top first
 abbrev pub Meant : {S E : Type 0} → Model S E → S → List E → (ℕ → List ℕ) → Type 0
@@ -114,7 +113,7 @@ pub record Room (x : Command) (depth : ℕ) : Type 0 where
 pub record Put {E : Type 0} (x : Command) (e : E) (s t : Stack E) : Type 0 where
   pub kinds : kinds_on t ≡ leaves x ∷ drop (length (takes x)) (kinds_on s)
   pub entries : entries_on t ≡ e ∷ drop (length (takes x)) (entries_on s)
-  pub ended : t.ended ≡ (is_end x || s.ended)
+  pub ended : t.outline.ended ≡ (is_end x || s.outline.ended)
 
 -- a value that fits its entry's kind: a condition is 0 or 1, and a policy a code below the count
 abbrev pub Fit : Codes → Kind → ℕ → Type 0
@@ -131,7 +130,7 @@ Sound K (k ∷ ks) (v ∷ vs) = Fit K k v × Sound K ks vs
 -- a reader in state s with this stack has read the row
 pub record Holds {S E : Type 0} (M : Model S E) (K : Codes) (s : S) (st : Stack E) (row : Row) : Type 0 where
   pub standing : kinds_on st ≡ kinds row
-  pub over : st.ended ≡ ended row
+  pub over : st.outline.ended ≡ ended row
   pub meant : Meant M s (entries_on st) (values K row)
   pub sound : (q : ℕ) → Sound K (kinds row) (values K row q)
 

@@ -1,24 +1,38 @@
 // The tests that a command passes before it works on the stack, and the stack after it.
-ghost use Rattle.std.specs.Prelude.{◌≡◌, ◌<◌, ◌≤◌, false, [], length, IfOk, OnOk, OnSome, slice_get, slice_index_or};
-ghost use Rattle.tape.specs.Tape.{first_of, operand_tests, stack_tests, checked};
-ghost use Rattle.tape.specs.Entries.{of_tables, placed, kinds_on, entries_on, Within, Room, Put};
+ghost use Rattle.std.specs.Prelude.{◌≡◌, ◌-◌, ◌<◌, ◌≤◌, true, false, [], ◌∷◌, length, IfOk, OnOk, IfSome, IfNone, OnSome, nat_le, slice_get, slice_index_or};
+ghost use Rattle.tape.specs.Tape.{fits, first_of, operand_tests, stack_tests, checked};
+ghost use Rattle.tape.specs.Entries.{of_tables, kinds_on, entries_on, Within, Room, Put};
 
 use crate::command::{Command, Kind};
 use crate::decode::beyond;
 use crate::refusal::Refusal;
 use crate::rules::Rules;
-use crate::stack::{Placed, Stack};
-use arrayvec::ArrayVec;
+use crate::stack::{Outline, Stack};
+
+impl Outline {
+    // Where what lies so many under the top stands, if anything does.
+    fn place(&self, below: usize) -> Option<usize>
+        ensures there { IfSome result (λ place. (below < self.now.depth) × (place ≡ self.now.depth - below - 1)) }
+        ensures past { IfNone result (self.now.depth ≤ below) }
+    {
+        self.depth.checked_sub(below)?.checked_sub(1)
+    }
+}
 
 impl<T: Copy> Stack<T> {
     // A stack with no entry.
     pub fn empty(none: T) -> Stack<T>
-        ensures bare { result.entries.items ≡ [] }
-        ensures unended { result.ended ≡ false }
+        ensures bare { result.outline.depth ≡ 0 }
+        ensures unended { result.outline.ended ≡ false }
     {
-        Stack {
-            entries: ArrayVec::new_in(none),
+        let outline = Outline {
+            kinds: [Kind::Condition; 32],
+            depth: 0,
             ended: false,
+        };
+        Stack {
+            outline,
+            entries: [none; 32],
         }
     }
 
@@ -33,66 +47,79 @@ impl<T: Copy> Stack<T> {
     pub(crate) fn entry_or(&self, below: usize, none: T) -> T
         ensures { result ≡ slice_index_or (entries_on self.now) below none }
     {
-        self.entry(below).unwrap_or(none)
+        match self.outline.place(below) {
+            Some(place) => self.entries[place],
+            None => none,
+        }
     }
 
-    // What lies so many under the top.
-    fn placed(&self, below: usize) -> Option<Placed<T>>
-        ensures said { result ≡ slice_get (placed self.now) below }
-        ensures there { OnSome result (below < length self.now.entries.items) }
-    {
-        self.entries.iter().rev().nth(below).copied()
-    }
-
-    // Its kind.
+    // The kind of the entry so many under the top one.
     fn kind(&self, below: usize) -> Option<Kind>
         ensures said { result ≡ slice_get (kinds_on self.now) below }
-        ensures there { OnSome result (below < length self.now.entries.items) }
+        ensures there { OnSome result (below < self.now.outline.depth) }
     {
-        Some(self.placed(below)?.kind)
+        Some(self.outline.kinds[self.outline.place(below)?])
     }
 
-    // Its entry.
-    fn entry(&self, below: usize) -> Option<T>
-        ensures { result ≡ slice_get (entries_on self.now) below }
+    // Whether one more entry would be the 33rd.
+    fn is_full(&self) -> bool
+        ensures { result ≡ nat_le 32 (length (kinds_on self.now)) }
     {
-        Some(self.placed(below)?.entry)
+        self.outline.depth >= 32
     }
 
-    // Refuses a command by the entries that it finds.
+    // Whether the top entry and the one under it are of these kinds.
+    fn tops(&self, top: Kind, under: Kind) -> bool
+        ensures said { result ≡ fits (top ∷ under ∷ []) (kinds_on self.now) }
+        ensures there { result ≡ true → 2 ≤ self.now.outline.depth }
+    {
+        self.kind(0) == Some(top) && self.kind(1) == Some(under)
+    }
+
+    // Refuses a command by the entries that it finds. By the command first: what decoding knows of it is then not asked again.
     fn check(&self, command: Command) -> Result<(), Refusal>
         ensures said { result ≡ first_of (stack_tests (kinds_on self.now) command) (tt {0}) }
-        ensures safe { OnOk result (Room command (length self.now.entries.items)) }
+        ensures safe { OnOk result (Room command self.now.outline.depth) }
     {
-        let full = self.entries.is_full();
-        match (command, self.kind(0), self.kind(1)) {
-            (Command::End, Some(Kind::Policy), None) => Ok(()),
-            (Command::End, _, _) => Err(Refusal::WrongEnd),
-            (Command::Has(_) | Command::Any(_) | Command::All(_) | Command::State(_), _, _)
-                if full => Err(Refusal::StackFull),
-            (Command::Has(_) | Command::Any(_) | Command::All(_) | Command::State(_), _, _)
-            | (Command::Not, Some(Kind::Condition), _)
-            | (Command::And, Some(Kind::Condition), Some(Kind::Condition))
-            | (Command::Or, Some(Kind::Condition), Some(Kind::Condition))
-            | (Command::Scope, Some(Kind::Condition), Some(Kind::Policy))
-            | (Command::Fail, Some(Kind::Condition), Some(Kind::Policy))
-            | (Command::Join(_), Some(Kind::Policy), Some(Kind::Policy)) => Ok(()),
-            _ => Err(Refusal::WrongEntry),
-        }
+        let (fitting, refusal) = match command {
+            Command::Has(_) | Command::Any(_) | Command::All(_) | Command::State(_) => {
+                (!self.is_full(), Refusal::StackFull)
+            }
+            Command::Not => (self.kind(0) == Some(Kind::Condition), Refusal::WrongEntry),
+            Command::And | Command::Or => {
+                (
+                    self.tops(Kind::Condition, Kind::Condition),
+                    Refusal::WrongEntry,
+                )
+            }
+            Command::Scope | Command::Fail => {
+                (
+                    self.tops(Kind::Condition, Kind::Policy),
+                    Refusal::WrongEntry,
+                )
+            }
+            Command::Join(_) => (self.tops(Kind::Policy, Kind::Policy), Refusal::WrongEntry),
+            Command::End => (
+                self.kind(0) == Some(Kind::Policy) && self.outline.depth == 1,
+                Refusal::WrongEnd,
+            ),
+        };
+        if fitting { Ok(()) } else { Err(refusal) }
     }
 
     // Takes what a command takes, and leaves its entry.
     #[tactic(auto, using(crate::proofs::Tops::put_on_top))]
     pub(crate) fn put(&mut self, command: Command, entry: T)
-        requires { Room command (length self.old.entries.items) }
+        requires { Room command self.old.outline.depth }
         ensures { Put command entry self.old self.new }
     {
-        self.entries.truncate(self.entries.len() - command.taken());
-        self.entries.push(Placed {
-            kind: command.leaves(),
-            entry,
-        });
-        self.ended |= command.ends();
+        let at = self.outline.depth - command.taken();
+        self.entries[at] = entry;
+        self.outline.kinds[at] = command.leaves();
+        self.outline.depth = at + 1;
+        if command.ends() {
+            self.outline.ended = true;
+        }
     }
 }
 
@@ -125,13 +152,13 @@ impl Rules<'_> {
         stack: &Stack<T>,
         bytes: &[u8],
     ) -> Result<(Command, usize), Refusal>
-        ensures said { result ≡ checked (of_tables self.now.tables.now) self.now.facts stack.now.ended (kinds_on stack.now) bytes.now }
+        ensures said { result ≡ checked (of_tables self.now.tables.now) self.now.facts stack.now.outline.ended (kinds_on stack.now) bytes.now }
         ensures within { IfOk result (λ d. Within d.0) }
-        ensures room { IfOk result (λ d. Room d.0 (length stack.now.entries.items)) }
+        ensures room { IfOk result (λ d. Room d.0 stack.now.outline.depth) }
         ensures some { IfOk result (λ d. 0 < d.1) }
         ensures there { IfOk result (λ d. d.1 ≤ length bytes.now) }
     {
-        if stack.ended {
+        if stack.outline.ended {
             return Err(Refusal::AfterEnd);
         }
         let (command, count) = Command::decode(bytes)?;

@@ -19,20 +19,38 @@ impl Command {
         ensures some { IfOk result (λ d. 0 < d.1) }
         ensures within { IfOk result (λ d. d.1 ≤ length bytes.now) }
     {
-        match bytes {
-            [0x01, fact, ..] => Ok((Command::Has(*fact), 2)),
-            [0x02, a, b, c, d, ..] => Ok((Command::Any(u32::from_le_bytes([*a, *b, *c, *d])), 5)),
-            [0x03, a, b, c, d, ..] => Ok((Command::All(u32::from_le_bytes([*a, *b, *c, *d])), 5)),
-            [0x04, ..] => Ok((Command::Not, 1)),
-            [0x05, ..] => Ok((Command::And, 1)),
-            [0x06, ..] => Ok((Command::Or, 1)),
-            [0x10, code, ..] => Ok((Command::State(*code), 2)),
-            [0x11, ..] => Ok((Command::Scope, 1)),
-            [0x12, ..] => Ok((Command::Fail, 1)),
-            [0x13, combiner, ..] => Ok((Command::Join(*combiner), 2)),
-            [0x1F, ..] => Ok((Command::End, 1)),
-            [] | [0x01 | 0x02 | 0x03 | 0x10 | 0x13, ..] => Err(Refusal::CutOff),
-            [_, ..] => Err(Refusal::UnknownByte),
+        // by the first byte before the length of the rest, which most commands do not ask for
+        let [byte, operand @ ..] = bytes else {
+            return Err(Refusal::CutOff);
+        };
+        match *byte {
+            0x01 => match operand {
+                [fact, ..] => Ok((Command::Has(*fact), 2)),
+                [] => Err(Refusal::CutOff),
+            },
+            0x02 => match operand {
+                [a, b, c, d, ..] => Ok((Command::Any(u32::from_le_bytes([*a, *b, *c, *d])), 5)),
+                _ => Err(Refusal::CutOff),
+            },
+            0x03 => match operand {
+                [a, b, c, d, ..] => Ok((Command::All(u32::from_le_bytes([*a, *b, *c, *d])), 5)),
+                _ => Err(Refusal::CutOff),
+            },
+            0x04 => Ok((Command::Not, 1)),
+            0x05 => Ok((Command::And, 1)),
+            0x06 => Ok((Command::Or, 1)),
+            0x10 => match operand {
+                [code, ..] => Ok((Command::State(*code), 2)),
+                [] => Err(Refusal::CutOff),
+            },
+            0x11 => Ok((Command::Scope, 1)),
+            0x12 => Ok((Command::Fail, 1)),
+            0x13 => match operand {
+                [combiner, ..] => Ok((Command::Join(*combiner), 2)),
+                [] => Err(Refusal::CutOff),
+            },
+            0x1F => Ok((Command::End, 1)),
+            _ => Err(Refusal::UnknownByte),
         }
     }
 

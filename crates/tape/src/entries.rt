@@ -125,7 +125,7 @@ impl Rules<'_> {
                 Err(refusal) => return Err(refusal.at(place)),
             }
         }
-        if !stack.ended {
+        if !stack.outline.ended {
             return Err(Refusal::NoEnd.at(place));
         }
         Ok(())

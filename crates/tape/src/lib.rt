@@ -22,4 +22,4 @@ pub use holdings::holdings_stand;
 pub use reader::{LONGEST_TAPE, read, read_with};
 pub use refusal::{Layer, Refusal, RefusedAt};
 pub use rules::Rules;
-pub use stack::{Placed, Stack};
+pub use stack::{Outline, Stack};

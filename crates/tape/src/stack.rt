@@ -1,28 +1,22 @@
 // The stack that a tape works on.
+ghost use Rattle.std.specs.Prelude.{◌≤◌};
+
 use crate::command::Kind;
-use arrayvec::ArrayVec;
-use std::default::MadeWith;
 
-// An entry with its kind; what an entry is depends on the reader.
+// The kinds of the entries, the top one last at depth - 1, and whether END was read.
 #[derive(Clone, Copy)]
-pub struct Placed<T> {
-    pub kind: Kind,
-    pub entry: T,
-}
-
-// The places of a stack that are not in use hold blanks, made of an entry that the stack is given for that.
-impl<T: Copy> MadeWith<T> for Placed<T> {
-    fn made_with(blank: T) -> Placed<T> {
-        Placed {
-            kind: Kind::Condition,
-            entry: blank,
-        }
-    }
-}
-
-// At most 32 entries, the top one last, and whether END was read.
-#[derive(Drop)]
-pub struct Stack<T> {
-    pub entries: ArrayVec<Placed<T>, 32, T>,
+pub struct Outline {
+    pub kinds: [Kind; 32],
+    pub depth: usize,
     pub ended: bool,
+    ghost within: { depth ≤ 32 },
+}
+
+// At most 32 entries, the top one last; what an entry is depends on the reader. Arrays beside their depth: an `ArrayVec` is no
+// `Copy`, and blanks each place that it gives up, which reading would pay for at every command; and of an array of pairs of a
+// kind and an entry the check does not find that it is `Clone`.
+#[derive(Clone, Copy)]
+pub struct Stack<T> {
+    pub outline: Outline,
+    pub entries: [T; 32],
 }

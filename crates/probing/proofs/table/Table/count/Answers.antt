@@ -4,11 +4,11 @@ use Rattle.probing.proofs.table.Table.count.Goals as goal
 
 pub returns : goal.returns
 returns g c =
-    let eq = g.K.PartialEq.eq in
+    let same = g.K.Key.same in
     let hashed = g.K.Key.hashed in
     let self = c.args.self.now in
     record {
-      number = sym (many eq hashed self.slots.now self.count c.args.self.now.whole);
-      within = within eq hashed self.slots.now self.count c.args.self.now.whole;
-      apart = (sound eq hashed self.slots.now self.count c.args.self.now.whole).apart;
+      number = sym (many same hashed self.slots.now self.count c.args.self.now.whole);
+      within = within same hashed self.slots.now self.count c.args.self.now.whole;
+      apart = (sound same hashed self.slots.now self.count c.args.self.now.whole).apart;
     }

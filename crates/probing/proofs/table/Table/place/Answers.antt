@@ -4,10 +4,10 @@ use Rattle.probing.proofs.table.Table.place.Goals as goal
 
 pub seek-requires : goal.seek-requires
 seek-requires g c =
-    let eq = g.K.PartialEq.eq in
+    let same = g.K.Key.same in
     let hashed = g.K.Key.hashed in
     let self = c.args.self.now in
     record {
-      narrow = narrow eq hashed self.slots.now self.count self.whole;
-      led = λ h. omega (arith, (sound eq hashed self.slots.now self.count self.whole).counted h, within eq hashed self.slots.now self.count self.whole);
+      narrow = narrow same hashed self.slots.now self.count self.whole;
+      led = λ h. omega (arith, (sound same hashed self.slots.now self.count self.whole).counted h, within same hashed self.slots.now self.count self.whole);
     }
