@@ -13,6 +13,6 @@ pub enum Line {
     Witness(u32),
     // an effect's code
     Code(u8),
-    // a refusal's number, and its place; a number, since a line is what is printed, of whatever refused
+    // a refusal's number, and its place; any number may stand there, since a line is only printed
     Refused(u8, usize),
 }

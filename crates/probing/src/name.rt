@@ -41,7 +41,7 @@ impl PartialEq for Name {
     ghost laws = { partial_equiv_from_equiv (on_equiv folded (decided bytes_eq bytes_eq-Decides)) };
 
     // By the lengths, and then byte by byte and not by `==` of slices, so that which letters are one stands in `fold_byte` alone.
-    // A loop over the places: matching both slices at every byte took a quarter longer and more.
+    // A loop over the places: matching both slices at every byte costs a quarter more, and more still where the lengths differ.
     fn eq(&self, other: &Name) -> bool {
         let mine = self.text();
         let theirs = other.text();

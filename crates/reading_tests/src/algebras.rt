@@ -38,7 +38,7 @@ fn four_combiners(rt: HostRuntime) {
     );
 }
 
-// What no algebra reaches is 0: cells beyond the codes, and the table of a combiner that it lacks.
+// Beyond the codes NOT, OR, FAIL's rows and a combiner's table are 0, and so is all of a combiner that is lacking.
 #[test]
 fn unreached_cells(rt: HostRuntime) {
     let tables = effect_tables::<SixEffect>();

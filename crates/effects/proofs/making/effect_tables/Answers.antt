@@ -1,14 +1,13 @@
-use Rattle.std.proofs.Common.{rules, ◌≡◌, ℕ, zero, suc, ◌-◌, ◌<◌, ◌≤◌, false, [], ◌∷◌, ◌∙◌, refl, eqb, map, get_or, zero-add, arith}
+use Rattle.std.proofs.Common.{rules, ◌≡◌, ◌<◌, false, [], ◌∷◌, ap, ◌∙◌, map, get_or, zero-add, arith}
 use Rattle.std.proofs.lemmas.List.FromFn.{get_or-range_with_len}
 use Rattle.std.proofs.lemmas.List.{get_or-map}
 use Rattle.effects.specs.Cells.{cell}
-use Rattle.effects.specs.Tables.{bit}
 use Rattle.effects.specs.declared.tables.CodeTable.{CodeTable}
-use Rattle.effects.proofs.Cells.{cell_by}
+use Rattle.effects.proofs.Cells.{cell_by, negated, both, either}
 use Rattle.effects.proofs.making.effect_tables.Goals as goal
 
-pub code_table-requires-4-clause-codes : goal.code_table-requires-4-clause-codes
-code_table-requires-4-clause-codes g c =
+pub code_table-requires-clause-codes : goal.code_table-requires-clause-codes
+code_table-requires-clause-codes g c =
     let na : c.code-not_applicable.result < 16 = omega (arith, g.met.A.EffectAlgebra.lawful.code_below c.not_applicable.result, g.met.A.EffectAlgebra.lawful.few) in
     search rules
 
@@ -21,14 +20,11 @@ returns g c =
       counted = c.count.ensures;
       combiners = c.combiner_count.ensures;
       stated = λ e h. let e16 : e < 16 = omega arith in let called = c.from_fn.ensures.items.at e false e16 in search rules;
-      negated = λ a h.
-          let e = cell_by c.code_table.ensures a a (omega arith) (omega arith) in
-          let value : cell c.code_table.result.cells a a ≡ bit (eqb a 0) = search rules in
-          value ∙ not_bit a h;
-      both = λ a b h k. let e = cell_by c.code_table-2.ensures a b (omega arith) (omega arith) in search rules;
-      either = λ a b h k. let e = cell_by c.code_table-3.ensures a b (omega arith) (omega arith) in search rules;
-      scope = λ a b h k. let e = cell_by c.code_table-4.ensures a b (omega arith) (omega arith) in search rules;
-      fail = λ a b h k. let e = cell_by c.code_table-5.ensures a b (omega arith) (omega arith) in search rules;
+      negated = λ a h. ap (λ t. cell t a a) c.negation.ensures ∙ negated a h;
+      both = λ a b h k. ap (λ t. cell t a b) c.both.ensures ∙ both a b h k;
+      either = λ a b h k. ap (λ t. cell t a b) c.either.ensures ∙ either a b h k;
+      scope = λ a b h k. let e = cell_by c.code_table.ensures a b (omega arith) (omega arith) in search rules;
+      fail = λ a b h k. let e = cell_by c.code_table-2.ensures a b (omega arith) (omega arith) in search rules;
       combine = λ k a b lk la lb.
           let below : k < 4 = omega arith in
           let same : get_or (0 ∷ 1 ∷ 2 ∷ 3 ∷ []) k 0 ≡ k = get_or-range_with_len 0 4 k 0 below ∙ zero-add k in
@@ -37,8 +33,3 @@ returns g c =
           let cells : get_or (map (λ (table : CodeTable). table.cells) c.map.result) k [] ≡ (get_or c.map.result k c.code_table.result).cells = get_or-map _ c.map.result k c.code_table.result [] (search rules) in
           rw cells (search rules);
     }
-  where
-    not_bit : (a : ℕ) → a ≤ 1 → bit (eqb a 0) ≡ 1 - a
-    not_bit zero h = refl
-    not_bit (suc zero) h = refl
-    not_bit (suc (suc a)) h = absurd (omega arith)
