@@ -36,8 +36,8 @@ fn code_table<F: Fn(u8, u8) -> u8>(cell: F) -> CodeTable
     CodeTable { cells: table(cell) }
 }
 
-// The operations on conditions are a few cells set to 1. Written cell by cell, like the others, they took a quarter of the time of
-// `effect_tables`, which every `read` and every new shelf calls.
+// The operations on conditions are a few cells set to 1. Written cell by cell, like the others, they cost some two thousand
+// instructions more, which every `read` and every new shelf pays.
 
 // NOT: the value is both row and column.
 fn negation() -> CodeTable
